@@ -1,0 +1,10 @@
+pub mod Same
+pub mod RoundTrip
+pub mod Written
+pub mod Filled
+pub mod Steps
+pub mod Shortest
+pub mod Replays
+pub mod Unique
+pub mod Covered
+pub mod Worked

@@ -1,0 +1,11 @@
+pub mod Limits
+pub mod Numbers
+pub mod Make
+pub mod Sectors
+pub mod Fields
+pub mod Words
+pub mod Replay
+pub mod Condensed
+pub mod Fit
+pub mod Laws
+pub mod Cases

@@ -1,0 +1,30 @@
+// What a log is made of: sizes, extents, entries and their words, faults and refusals; and the laws of logs.
+mod entry;
+mod extent;
+mod fault;
+mod laws;
+mod make;
+mod number;
+mod reading;
+mod refusal;
+mod size;
+mod writing;
+
+pub use entry::DebugWord;
+pub use entry::Effect;
+pub use entry::Entry;
+pub use entry::Span;
+pub use extent::Extent;
+pub use fault::Fault;
+pub use fault::Stop;
+pub use laws::condensed_log_exists;
+pub use laws::condensed_log_is_shortest;
+pub use laws::condensed_log_is_unique;
+pub use laws::condensed_log_replays;
+pub use laws::equal_condensed_logs_have_equal_sectors;
+pub use laws::reading_undoes_writing;
+pub use laws::worked_cases_hold;
+pub use reading::decode;
+pub use refusal::Refusal;
+pub use size::Size;
+pub use writing::encode;
