@@ -10,7 +10,7 @@ pub enum Effect {
 }
 
 // The sectors of an entry. Both numbers fit their fields of the word, so that no entry can lose a part of its run.
-#[derive(Clone, Copy)]
+#[derive(Clone, Copy, PartialEq, Eq, Debug)]
 pub struct Span {
     pub offset: u64,
     pub run: u64,
@@ -27,7 +27,7 @@ pub struct DebugWord {
     pub group: u64,
 }
 
-#[derive(Clone, Copy)]
+#[derive(Clone, Copy, PartialEq, Eq, Debug)]
 pub enum Entry {
     Allocate(Span),
     Free(Span),

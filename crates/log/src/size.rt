@@ -3,7 +3,7 @@ ghost use Prim.Native.Nat.{_≤_};
 ghost use Rattle.log.specs.Limits.{most-sectors};
 
 // How many sectors a slab has: at least one, and at most the limit.
-#[derive(Clone, Copy)]
+#[derive(Clone, Copy, PartialEq, Eq, Debug)]
 pub struct Size {
     pub sectors: u64,
     ghost some: { 1 ≤ sectors },
