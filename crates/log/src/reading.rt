@@ -1,6 +1,6 @@
 // Reading a word.
 ghost use mathlib.Core.Path.{_≡_};
-ghost use Rattle.log.specs.Words.{read, entry-of, note-of};
+ghost use Rattle.log.specs.Words.{read, entry-of, span-of, note-of};
 use crate::entry::DebugWord;
 use crate::entry::Entry;
 use crate::entry::Span;
@@ -13,7 +13,7 @@ pub fn decode(word: u64) -> Result<Entry, Fault>
     if word >> 63 == 0 {
         Ok(one_word_entry(word))
     } else if (word >> 62) % 2 == 0 {
-        Ok(Entry::Debug(debug_word(word)))
+        Ok(Entry::Debug(debug_fields(word)))
     } else {
         Err(Fault::Kind)
     }
@@ -22,18 +22,23 @@ pub fn decode(word: u64) -> Result<Entry, Fault>
 fn one_word_entry(word: u64) -> Entry
     ensures { λ r. ⌜ r ≡ entry-of word ⌝ }
 {
-    let span = Span {
-        offset: (word >> 16) % (1 << 47),
-        run: word % (1 << 15) + 1,
-    };
     if (word >> 15) % 2 == 0 {
-        Entry::Allocate(span)
+        Entry::Allocate(span_fields(word))
     } else {
-        Entry::Free(span)
+        Entry::Free(span_fields(word))
     }
 }
 
-fn debug_word(word: u64) -> DebugWord
+fn span_fields(word: u64) -> Span
+    ensures { λ r. ⌜ r ≡ span-of word ⌝ }
+{
+    Span {
+        offset: (word >> 16) % (1 << 47),
+        run: word % (1 << 15) + 1,
+    }
+}
+
+fn debug_fields(word: u64) -> DebugWord
     ensures { λ r. ⌜ r ≡ note-of word ⌝ }
 {
     DebugWord {

@@ -1,8 +1,7 @@
 // Writing words.
 ghost use mathlib.Core.Path.{_≡_};
 ghost use Rattle.std.specs.shelf.Maps.{nth};
-ghost use Rattle.std.specs.declared.result.Result.the-variants.{Ok};
-ghost use Rattle.log.specs.Words.{read, says, effect-bit, word-of, entries, words-of};
+ghost use Rattle.log.specs.Words.{effect-bit, word-of, entries, words-of};
 ghost use Prim.Native.Nat.{_*_, _^_};
 use crate::entry::Effect;
 use crate::entry::Span;
@@ -11,10 +10,9 @@ use crate::extent::Extent;
 // The most sectors of one entry.
 const LONGEST_RUN: u64 = 32_768;
 
-// The word of an entry, which reads as that entry again.
+// The word of an entry.
 pub fn encode(effect: Effect, span: Span) -> u64
-    ensures word { λ r. ⌜ r ≡ word-of effect (span .offset) (span .run) ⌝ }
-    ensures reads { λ r. ⌜ read r ≡ Ok (says effect span) ⌝ }
+    ensures { λ r. ⌜ r ≡ word-of effect (span .offset) (span .run) ⌝ }
 {
     span.offset * (1 << 16) + effect.bit() + (span.run - 1)
 }

@@ -13,4 +13,4 @@ returns-then-n-entries c =
 pub returns : need.returns
 returns c =
     let e = c .args .self in
-    ap Some (c .encode .ensures .word ∙ omega arith) ∙ sym (word-there (c .args .effect) (e .start) (e .length) (c .args .n) (omega arith))
+    ap Some (c .encode .ensures ∙ omega arith) ∙ sym (word-there (c .args .effect) (e .start) (e .length) (c .args .n) (omega arith))
