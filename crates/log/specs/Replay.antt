@@ -26,15 +26,23 @@ give-back free start len s = free s || covers start len s
 abbrev pub uncrowded : ℕ → Sectors → Result Sectors Fault
 uncrowded size free = cond (leb (runs free size) most-extents) (Ok free) (Err Crowded)
 
+-- the free sectors once an extent is granted, or the fault that forbids it
+abbrev pub granting : ℕ → Sectors → ℕ → ℕ → Result Sectors Fault
+granting size free start len =
+    cond (ltb size (start + len)) (Err Bounds)
+    (cond (meets (used size free) start len) (Err Taken) (uncrowded size (grant free start len)))
+
+-- the free sectors once an extent is given back, or the fault that forbids it
+abbrev pub returning : ℕ → Sectors → ℕ → ℕ → Result Sectors Fault
+returning size free start len =
+    cond (ltb size (start + len)) (Err Bounds)
+    (cond (meets free start len) (Err Again) (uncrowded size (give-back free start len)))
+
 -- what one entry makes of the free sectors, or its fault
 abbrev pub apply : ℕ → Sectors → Entry → Result Sectors Fault
 apply size free (Debug _) = Ok free
-apply size free (Allocate e) =
-    cond (ltb size (e .offset + e .run)) (Err Bounds)
-    (cond (meets (used size free) (e .offset) (e .run)) (Err Taken) (uncrowded size (grant free (e .offset) (e .run))))
-apply size free (Free e) =
-    cond (ltb size (e .offset + e .run)) (Err Bounds)
-    (cond (meets free (e .offset) (e .run)) (Err Again) (uncrowded size (give-back free (e .offset) (e .run))))
+apply size free (Allocate e) = granting size free (e .offset) (e .run)
+apply size free (Free e) = returning size free (e .offset) (e .run)
 
 -- the same of a word as it reads
 abbrev pub take-word : ℕ → Sectors → Result Entry Fault → Result Sectors Fault

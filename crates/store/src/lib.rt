@@ -1,5 +1,6 @@
 // Stores for the words of a log: the trait, a store with places of its own, and a store over an area of bytes.
 mod bytes;
+mod extents;
 mod formatting;
 mod header_rule;
 mod image;
@@ -7,6 +8,7 @@ mod layout;
 mod log_store;
 mod own;
 
+pub use extents::add_extent;
 pub use formatting::format;
 pub use header_rule::HEADER_BYTES;
 pub use header_rule::Header;

@@ -1,0 +1,15 @@
+pub mod Spaced
+pub mod Changed
+pub mod Lengths
+pub mod Counted
+pub mod Searched
+pub mod Cutting
+pub mod Edges
+pub mod Joining
+pub mod Moves
+pub mod Spaces
+pub mod Meant
+pub mod Asked
+pub mod Replayed
+pub mod InUse
+pub mod Walked

@@ -1,0 +1,16 @@
+pub mod Model
+pub mod Turn
+pub mod Level
+pub mod Climbing
+pub mod Descending
+pub mod Lists
+pub mod Inserting
+pub mod Listed
+pub mod Bound
+pub mod Removing
+pub mod Searching
+pub mod Unused
+pub mod Soundness
+pub mod Pairs
+pub mod Calls
+pub mod Tables

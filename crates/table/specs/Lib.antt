@@ -1,0 +1,13 @@
+pub mod Order
+pub mod Pairs
+pub mod Tree
+pub mod Edit
+pub mod Path
+pub mod Search
+pub mod Remove
+pub mod Change
+pub mod Parts
+pub mod Sound
+pub mod StartTable
+pub mod LengthTable
+pub mod Least
