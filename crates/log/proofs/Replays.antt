@@ -1,13 +1,12 @@
 -- The condensed log replays to the free sectors that it was made from.
-use mathlib.Core.Path.{_≡_, subst, _∙_, refl, ap, fun-ext}
+use mathlib.Core.Path.{_≡_, refl, ap, fun-ext}
 use mathlib.Core.Bool.{Bool, true, false, cond}
 use mathlib.Core.List.{List, _∷_, _++_}
 use mathlib.Core.Logic.{inl, inr}
-use Prim.Native.Nat.{ℕ, zero, suc, _+_, _-_, _^_, _≤_, _<_}
-use native.Mathlib.Nat.{add-zero, add-suc}
+use Prim.Native.Nat.{ℕ, zero, suc, _+_, _-_, _≤_, _<_}
 use native.Mathlib.Omega.{arith}
 use lib.Dec.{ltb, leb}
-use Rattle.std.proofs.shelf.Tests.{leb-false, leb-true, le-ltb, le-leb, cases-order, cases-lt, ltb-true, and-parts}
+use Rattle.std.proofs.shelf.Tests.{leb-false, leb-true, le-ltb, le-leb, cases-order, ltb-true, and-parts}
 use Rattle.std.proofs.shelf.Ways.{tells}
 use Rattle.std.specs.declared.result.Result.the-variants.{Ok}
 use Rattle.log.specs.Limits.{most-sectors, longest-run, most-extents}

@@ -1,11 +1,10 @@
 -- The word of an entry reads as that entry.
 use mathlib.Core.Path.{_≡_, ap}
-use Prim.Native.Nat.{ℕ, _+_, _^_, _≤_, _<_}
+use Prim.Native.Nat.{ℕ, _+_, _≤_}
 use native.Mathlib.Omega.{arith}
 use Rattle.std.specs.declared.result.Result.the-variants.{Ok}
-use Rattle.log.specs.Limits.{longest-run}
 use Rattle.log.specs.Fields.{bits}
-use Rattle.log.specs.Words.{span-of, read, says, effect-bit, word-of}
+use Rattle.log.specs.Words.{span-of, effect-bit, word-of}
 use Rattle.log.specs.Laws.{Reading-undoes-writing}
 use Rattle.log.specs.declared.entry.Effect.{Effect}
 use Rattle.log.specs.declared.entry.Effect.the-variants.{Allocates, Frees}

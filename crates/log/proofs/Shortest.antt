@@ -1,27 +1,26 @@
 -- No log that replays to a set of free sectors has fewer words than their condensed log.
-use mathlib.Core.Path.{_≡_, refl, sym, ap}
+use mathlib.Core.Path.{_≡_, refl, sym}
 use mathlib.Core.Bool.{Bool, true, false, cond}
 use mathlib.Core.List.{List, [], _∷_}
 use mathlib.Core.Logic.{inl, inr}
 use Prim.Native.Nat.{ℕ, zero, suc, _+_, _-_, _*_, _≤_, _<_}
 use native.Mathlib.Omega.{arith}
-use lib.Dec.{ltb, leb, eqb}
+use lib.Dec.{ltb, eqb}
 use lib.ListN.{length, length-append}
-use Rattle.std.proofs.shelf.Tests.{ltb-false, leb-false, leb-true, le-ltb, cases-lt, both-ways}
+use Rattle.std.proofs.shelf.Tests.{ltb-false, le-ltb, cases-lt, both-ways}
 use Rattle.std.proofs.shelf.Ways.{tells}
 use Rattle.std.specs.declared.result.Result.{Result}
 use Rattle.std.specs.declared.result.Result.the-variants.{Ok, Err}
 use Rattle.log.specs.Limits.{longest-run}
 use Rattle.log.specs.declared.fault.Fault.{Fault}
 use Rattle.log.specs.declared.fault.Fault.the-variants.{Bounds, Taken, Again, Kind}
-use Rattle.log.specs.declared.entry.Effect.{Effect}
 use Rattle.log.specs.declared.entry.Effect.the-variants.{Allocates}
 use Rattle.log.specs.declared.entry.Span.{Span}
 use Rattle.log.specs.declared.fault.Stop.{Stop}
 use Rattle.log.specs.declared.entry.Entry.the-variants.{Allocate, Free, Debug}
 use Rattle.log.specs.Sectors.{Sectors, Run, used, whole, meets}
 use Rattle.log.specs.Fields.{bits}
-use Rattle.log.specs.Words.{span-of, note-of, read, cut, entries, words-of}
+use Rattle.log.specs.Words.{span-of, note-of, read, words-of}
 use Rattle.log.specs.Replay.{grant, give-back, apply, take-word, replay-from}
 use Rattle.log.specs.Condensed.{RunsFrom, none, next, all-words}
 use Rattle.log.specs.Laws.{Condensed-is-shortest}

@@ -1,15 +1,13 @@
 -- The rows of the table of worked cases that do not compute: sets of sectors, and runs of them.
-use mathlib.Core.Bool.{true, false}
-use mathlib.Core.List.{List, [], _∷_}
-use mathlib.Core.Logic.{_⊎_, inl, inr}
+use mathlib.Core.List.{[], _∷_}
+use mathlib.Core.Logic.{_⊎_, inr}
 use mathlib.Core.Path.{_≡_, refl, ap, fun-ext}
 use Prim.Native.Nat.{ℕ, _+_, _-_, _≤_, _<_}
 use native.Mathlib.Omega.{arith}
 use lib.Dec.{T}
-use Rattle.std.proofs.shelf.Tests.{cases-order}
 use Rattle.std.proofs.shelf.Ways.{tells}
 use Rattle.std.specs.declared.result.Result.the-variants.{Ok}
-use Rattle.log.specs.Sectors.{Sectors, Run, covers, listed, used}
+use Rattle.log.specs.Sectors.{Sectors, Run, listed}
 use Rattle.log.specs.Condensed.{none, next}
 use Rattle.log.specs.Cases.{Holds, leaves, condenses, grants, All-hold, table}
 use Rattle.log.proofs.Steps.{from-T, from-not-T, to-T, to-not-T}
@@ -58,19 +56,20 @@ two-runs s l r =
     grind arith
 
 grant-at-ten : Holds (grants ((10, 20) ∷ (40, 20) ∷ []) 5 10)
-grant-at-ten =
-    record {
-      len = 20;
-      extent =
-          record {
-            some = omega arith;
-            filled = λ s l m. to-T (grind (arith, tells));
-            before = λ p e. let is : p ≡ 9 = omega arith in rw is (λ t. t);
-            after = λ t. t;
-          };
-      enough = omega arith;
-      others = λ s l r e. let h = two-runs s l r in inr (omega arith);
-    }
+grant-at-ten = (
+  20,
+  record {
+    extent =
+        record {
+          some = omega arith;
+          filled = λ s l m. to-T (grind (arith, tells));
+          before = λ p e. let is : p ≡ 9 = omega arith in rw is (λ t. t);
+          after = λ t. t;
+        };
+    enough = omega arith;
+    others = λ s l r e. let h = two-runs s l r in inr (omega arith);
+  },
+)
 
 pub worked-cases-hold : All-hold table
 worked-cases-hold =

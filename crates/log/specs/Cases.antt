@@ -3,7 +3,7 @@ use mathlib.Core.List.{List, [], _∷_}
 use mathlib.Core.Path.{_≡_}
 use Prim.Native.Nat.{ℕ}
 use Rattle.std.specs.declared.result.Result.the-variants.{Ok, Err}
-use Rattle.log.specs.Sectors.{listed, whole}
+use Rattle.log.specs.Sectors.{listed}
 use Rattle.log.specs.Words.{words-of}
 use Rattle.log.specs.Replay.{replay}
 use Rattle.log.specs.Condensed.{Condensed}
@@ -32,7 +32,7 @@ Holds (writes effect start len words) = words-of effect start len ≡ words
 Holds (leaves size words free) = replay size words ≡ Ok (listed free)
 Holds (faults size words fault place) = replay size words ≡ Err (record { fault = fault; place = place })
 Holds (condenses size free words) = Condensed size (listed free) words
-Holds (grants free want start) = BestFit (listed free) want start
+Holds (grants free want start) = (len : ℕ) × BestFit (listed free) want start len
 
 abbrev pub table : List Case
 table =

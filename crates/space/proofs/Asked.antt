@@ -1,8 +1,8 @@
 -- The longest runs of free sectors of a space, as extents of its two tables.
 use mathlib.Core.Bool.{true}
-use mathlib.Core.Logic.{_⊎_, inl, inr}
+use mathlib.Core.Logic.{inl, inr}
 use mathlib.Core.Path.{_≡_, refl, sym, _∙_}
-use Prim.Native.Nat.{ℕ, _+_, _≤_, _<_}
+use Prim.Native.Nat.{ℕ, _+_, _≤_}
 use native.Mathlib.Omega.{arith}
 use lib.Dec.{ltb}
 use Rattle.std.specs.declared.option.Option.{Option}
@@ -18,8 +18,8 @@ use Rattle.table.specs.LengthTable.{pairs as lengths}
 use Rattle.space.specs.Extents.{in-list, span}
 use Rattle.space.specs.Free.{sectors-of, free-in, Longest}
 use Rattle.space.specs.declared.space.Space.{Space}
-use Rattle.space.proofs.Spaced.{Lies, run-there, listed-run}
-use Rattle.space.proofs.Searched.{Best, best-some, best-none, Longest-key, longest-some, longest-none, Next, next-some, next-none}
+use Rattle.space.proofs.Spaced.{run-there, listed-run}
+use Rattle.space.proofs.Searched.{Best, best-some, longest-some, longest-none, Next, next-some}
 use Rattle.space.proofs.Spaces.{spaced-in, lies-in, lengths-ordered}
 
 module _ (space : Space) where

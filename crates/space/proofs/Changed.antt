@@ -1,21 +1,21 @@
 -- One extent put into a list of extents with gaps between them, or taken out of it.
 use mathlib.Core.Bool.{Bool, true, false, cond, not, _&&_, _||_}
-use mathlib.Core.List.{List, [], _∷_}
+use mathlib.Core.List.{[], _∷_}
 use mathlib.Core.Logic.{_⊎_, inl, inr}
-use mathlib.Core.Path.{_≡_, refl, sym, ap, _∙_}
-use Prim.Native.Nat.{ℕ, zero, suc, _+_, _-_, _≤_, _<_}
+use mathlib.Core.Path.{_≡_, refl}
+use Prim.Native.Nat.{ℕ, _+_, _-_, _≤_, _<_}
 use native.Mathlib.Omega.{arith}
 use lib.Dec.{eqb, ltb}
 use lib.ListN.{length}
-use Rattle.std.proofs.shelf.Tests.{ltb-true, ltb-false, lt-ltb, le-ltb, both-ways}
+use Rattle.std.proofs.shelf.Tests.{ltb-true, ltb-false, both-ways}
 use Rattle.std.proofs.shelf.Ways.{tells}
-use Rattle.log.specs.Sectors.{Sectors, covers}
+use Rattle.log.specs.Sectors.{covers}
 use Rattle.log.specs.Replay.{grant, give-back}
 use Rattle.table.specs.declared.node.Entry.{Entry}
 use Rattle.table.specs.Pairs.{pair, put, without, alike}
 use Rattle.space.specs.Extents.{Starts, free-of, total, Spaced, in-list}
 use Rattle.space.specs.Tables.{Clear}
-use Rattle.space.proofs.Spaced.{free-below, lower, lies, Lies, first-or-rest}
+use Rattle.space.proofs.Spaced.{free-below, lower, lies, first-or-rest}
 
 abbrev pub with-extent : ℕ → ℕ → Starts → Starts
 with-extent start len es = put ltb (pair start len) es

@@ -1,21 +1,21 @@
 -- A run of sectors granted out of a free extent: whether there is one, and what the two ends that stay free are.
-use mathlib.Core.Bool.{Bool, true, false, not, _&&_, _||_}
+use mathlib.Core.Bool.{true, false}
 use mathlib.Core.Logic.{_⊎_, inl, inr}
 use mathlib.Core.Path.{_≡_, refl, sym, ap, _∙_, fun-ext, subst}
 use Prim.Native.Nat.{ℕ, zero, suc, _+_, _-_, _≤_, _<_}
 use native.Mathlib.Omega.{arith}
 use lib.Dec.{ltb}
 use lib.ListN.{length}
-use Rattle.std.proofs.shelf.Tests.{or-left, or-right, cases-eq, cases-lt, cases-order, both-ways, cases-bool}
+use Rattle.std.proofs.shelf.Tests.{or-left, or-right, cases-eq, cases-lt, cases-bool}
 use Rattle.std.proofs.shelf.Ways.{tells}
-use Rattle.log.specs.Sectors.{Sectors, covers, used, meets, runs}
+use Rattle.log.specs.Sectors.{Sectors, used, meets, runs}
 use Rattle.log.specs.Replay.{grant, give-back}
 use Rattle.log.proofs.Steps.{none-meets}
 use Rattle.table.specs.declared.node.Entry.{Entry}
 use Rattle.table.specs.Pairs.{pair, without}
 use Rattle.space.specs.Extents.{Starts, free-of, Spaced, in-list}
 use Rattle.space.specs.Tables.{Clear}
-use Rattle.space.proofs.Spaced.{lies, filled, apart, Holder, holder, behind, same-len, free-past}
+use Rattle.space.proofs.Spaced.{lies, filled, apart, holder, behind, same-len}
 use Rattle.space.proofs.Changed.{with-extent, put-spaced, put-free, without-spaced, without-free, without-length}
 use Rattle.space.proofs.Counted.{runs-free}
 use Rattle.space.proofs.Lengths.{length-put}

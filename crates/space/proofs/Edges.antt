@@ -1,20 +1,19 @@
 -- The free extents that lie beside a sector.
-use mathlib.Core.Bool.{Bool, true, false, cond, not, _&&_, _||_}
-use mathlib.Core.List.{List, [], _∷_}
-use mathlib.Core.Logic.{_⊎_, inl, inr}
+use mathlib.Core.Bool.{Bool, true, false, cond}
+use mathlib.Core.List.{[], _∷_}
+use mathlib.Core.Logic.{inl, inr}
 use mathlib.Core.Path.{_≡_, refl, sym, ap, _∙_}
-use Prim.Native.Nat.{ℕ, _+_, _-_, _≤_, _<_}
+use Prim.Native.Nat.{ℕ, _+_, _-_, _≤_}
 use native.Mathlib.Omega.{arith}
-use lib.Dec.{eqb, ltb}
+use lib.Dec.{ltb}
 use Rattle.std.proofs.shelf.Tests.{both-ways, cases-bool, cases-eq, or-left, or-right, and-from, eq-eqb, cases-lt}
 use Rattle.std.proofs.shelf.Ways.{tells}
-use Rattle.std.specs.declared.option.Option.{Option}
 use Rattle.std.specs.declared.option.Option.the-variants.{Some, None}
 use Rattle.table.specs.declared.node.Entry.{Entry}
 use Rattle.table.specs.Pairs.{alike, find}
 use Rattle.space.specs.Extents.{Starts, free-of, Spaced, in-list}
 use Rattle.space.specs.Tables.{LeftEdge, RightEdge}
-use Rattle.space.proofs.Spaced.{first-or-rest, lies, filled, Holder, holder}
+use Rattle.space.proofs.Spaced.{first-or-rest, lies, filled, holder}
 use Rattle.space.proofs.Searched.{Previous}
 use Rattle.space.proofs.Cutting.{past-previous, before-all}
 

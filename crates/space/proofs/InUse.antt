@@ -4,19 +4,15 @@ use mathlib.Core.Logic.{_⊎_, inl, inr}
 use mathlib.Core.Path.{_≡_, refl, sym, ap, _∙_}
 use Prim.Native.Nat.{ℕ, zero, suc, _+_, _-_, _≤_, _<_}
 use native.Mathlib.Omega.{arith}
-use lib.Dec.{T, ltb}
 use Rattle.std.proofs.shelf.Tests.{cases-bool, cases-lt, both-ways}
 use Rattle.std.proofs.shelf.Ways.{tells}
-use Rattle.std.specs.declared.option.Option.the-variants.{None}
 use Rattle.log.specs.Sectors.{Sectors, Run, used, begins}
 use Rattle.log.proofs.Steps.{from-T, from-not-T, to-T, to-not-T}
 use Rattle.table.specs.declared.node.Entry.{Entry}
-use Rattle.table.specs.Pairs.{find}
 use Rattle.space.specs.Extents.{Starts, free-of, Spaced, in-list}
 use Rattle.space.specs.Tables.{RightEdge, UsedFrom, UsedTo}
-use Rattle.space.proofs.Spaced.{lies, filled, apart, Holder, holder, free-past}
-use Rattle.space.proofs.Searched.{Next, Previous}
-use Rattle.space.proofs.Cutting.{past-previous, before-all}
+use Rattle.space.proofs.Spaced.{lies, filled, apart, holder}
+use Rattle.space.proofs.Searched.{Next}
 
 -- a longest run begins at its first sector
 pub run-begins : (set : Sectors) (s l : ℕ) → Run set s l → begins set s ≡ true

@@ -1,16 +1,16 @@
 -- A run of sectors made free: it grows together with the free extents beside it.
-use mathlib.Core.Bool.{Bool, true, false, not, _&&_, _||_}
-use mathlib.Core.Logic.{_⊎_, inl, inr}
-use mathlib.Core.Path.{_≡_, refl, sym, ap, _∙_, fun-ext, subst}
+use mathlib.Core.Bool.{true, false}
+use mathlib.Core.Logic.{inl, inr}
+use mathlib.Core.Path.{_≡_, sym, ap, _∙_, fun-ext, subst}
 use Prim.Native.Nat.{ℕ, _+_, _-_, _≤_, _<_, min}
 use native.Mathlib.Omega.{arith}
 use lib.Dec.{ltb}
 use lib.ListN.{length}
-use Rattle.std.proofs.shelf.Tests.{cases-lt, both-ways}
+use Rattle.std.proofs.shelf.Tests.{cases-lt}
 use Rattle.std.proofs.shelf.Ways.{tells}
-use Rattle.log.specs.Sectors.{Sectors, Run, covers, meets, runs}
+use Rattle.log.specs.Sectors.{Sectors, Run, meets, runs}
 use Rattle.log.specs.Replay.{grant, give-back}
-use Rattle.log.proofs.Steps.{none-meets, meets-none, from-T, from-not-T, to-T, to-not-T}
+use Rattle.log.proofs.Steps.{none-meets, meets-none, to-T, to-not-T}
 use Rattle.table.specs.declared.node.Entry.{Entry}
 use Rattle.table.specs.Pairs.{pair, without}
 use Rattle.space.specs.Extents.{Starts, free-of, Spaced, in-list}

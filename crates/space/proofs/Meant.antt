@@ -1,7 +1,7 @@
 -- What granting and giving back mean, once their tests are known.
 use mathlib.Core.Bool.{true, false, _&&_}
 use mathlib.Core.Logic.{_⊎_, inl, inr}
-use mathlib.Core.Path.{_≡_, refl}
+use mathlib.Core.Path.{_≡_}
 use Prim.Native.Nat.{ℕ, _+_, _≤_, _<_}
 use lib.Dec.{ltb, leb, eqb}
 use Rattle.std.proofs.shelf.Tests.{le-ltb, le-leb, lt-leb, and-cases, and-parts, eqb-true, eqb-false, leb-true, leb-false}
@@ -9,7 +9,7 @@ use Rattle.std.specs.declared.result.Result.the-variants.{Ok, Err}
 use Rattle.log.specs.Limits.{most-extents}
 use Rattle.log.specs.Sectors.{Sectors, used, meets, runs}
 use Rattle.log.specs.Replay.{grant, give-back, granting, returning}
-use Rattle.log.specs.declared.fault.Fault.the-variants.{Bounds, Taken, Again, Crowded}
+use Rattle.log.specs.declared.fault.Fault.the-variants.{Taken, Again, Crowded}
 
 module _ (size : ℕ) (free : Sectors) (start len : ℕ) where
   module _ (fits : start + len ≤ size) where

@@ -1,25 +1,23 @@
 -- One extent put into both lists of extents, or taken out of both: what holds of the lists then.
-use mathlib.Core.Bool.{Bool, true, false, cond, not, _&&_, _||_}
-use mathlib.Core.List.{List, [], _∷_}
-use mathlib.Core.Logic.{_⊎_, inl, inr}
+use mathlib.Core.Bool.{Bool, true, false, cond}
+use mathlib.Core.List.{[], _∷_}
+use mathlib.Core.Logic.{inl, inr}
 use mathlib.Core.Path.{_≡_, refl, sym, ap, _∙_, subst, fun-ext}
 use Prim.Native.Nat.{ℕ, _+_, _≤_, _<_}
 use native.Mathlib.Nat.{zero-add}
 use native.Mathlib.Omega.{arith}
-use lib.Dec.{eqb, ltb}
+use lib.Dec.{ltb}
 use lib.ListN.{length}
 use Rattle.std.proofs.shelf.Tests.{both-ways, or-cases, not-from-false, and-from, lt-ltb}
 use Rattle.std.proofs.shelf.Ways.{tells}
 use Rattle.std.specs.declared.option.Option.{Option}
-use Rattle.log.specs.Sectors.{covers, whole}
+use Rattle.log.specs.Sectors.{whole}
 use Rattle.log.specs.Replay.{grant, give-back}
-use Rattle.table.specs.declared.node.Entry.{Entry}
-use Rattle.table.specs.declared.key.LengthKey.{LengthKey}
 use Rattle.table.specs.Order.{shorter}
 use Rattle.table.specs.Pairs.{Ordered, pair, put, without, alike, has, Inserts, Removes}
 use Rattle.space.specs.Extents.{Starts, Lengths, free-of, total, Spaced, in-list, span, Twins}
 use Rattle.space.specs.Tables.{Clear}
-use Rattle.space.proofs.Spaced.{free-below, filled, lies}
+use Rattle.space.proofs.Spaced.{filled}
 use Rattle.space.proofs.Changed.{with-extent, put-spaced, put-free, put-total, without-spaced, without-free, without-total, without-length}
 use Rattle.space.proofs.Lengths.{put-twins, without-twins, length-put, length-without}
 

@@ -6,9 +6,8 @@ use native.Mathlib.Numerals.{add-one}
 use native.Mathlib.Omega.{arith}
 use lib.ListN.{length, getD, drop}
 use lib.Seq.{drop-cons}
-use Rattle.std.specs.declared.result.Result.{Result}
 use Rattle.std.specs.declared.result.Result.the-variants.{Ok, Err}
-use Rattle.log.specs.Sectors.{Sectors, whole}
+use Rattle.log.specs.Sectors.{Sectors}
 use Rattle.log.specs.Words.{read}
 use Rattle.log.specs.Replay.{take-word, replay-from, replay}
 use Rattle.log.specs.declared.fault.Fault.{Fault}

@@ -1,21 +1,20 @@
 -- What the searches of the two lists find: the next extent, the one before a sector, the best fit and the longest.
-use mathlib.Core.Bool.{Bool, true, false, cond, not, _&&_, _||_}
+use mathlib.Core.Bool.{Bool, true, false, cond}
 use mathlib.Core.List.{List, [], _∷_}
 use mathlib.Core.Logic.{_⊎_, inl, inr}
-use mathlib.Core.Path.{_≡_, refl, sym, ap, _∙_}
+use mathlib.Core.Path.{_≡_, refl, ap}
 use Prim.Native.Nat.{ℕ, _+_, _≤_, _<_}
 use native.Mathlib.Omega.{arith}
-use lib.Dec.{eqb, ltb}
+use lib.Dec.{ltb}
 use Rattle.std.proofs.shelf.Tests.{both-ways, or-left, or-right, or-cases, and-from, eq-eqb, ltb-true, ltb-false}
 use Rattle.std.proofs.shelf.Ways.{tells}
-use Rattle.std.specs.declared.option.Option.{Option}
 use Rattle.std.specs.declared.option.Option.the-variants.{Some, None}
 use Rattle.table.specs.declared.node.Entry.{Entry}
 use Rattle.table.specs.declared.key.LengthKey.{LengthKey}
 use Rattle.table.specs.Pairs.{Each, Ordered, alike, has, under, from, first, last}
 use Rattle.table.specs.Order.{shorter}
 use Rattle.space.specs.Extents.{Starts, Lengths, Spaced, in-list, span}
-use Rattle.space.proofs.Spaced.{first-or-rest, lies, Lies}
+use Rattle.space.proofs.Spaced.{first-or-rest, lies}
 
 -- a list's extents, as its first or one of the rest
 here : (e : Entry ℕ ℕ) (es : Starts) → in-list (e .key) (e .value) (e ∷ es) ≡ true

@@ -1,15 +1,15 @@
 -- Lists of extents with gaps between them: what is free in them, and that their extents are the longest runs.
-use mathlib.Core.Bool.{Bool, true, false, not, _&&_, _||_}
-use mathlib.Core.List.{List, [], _∷_}
+use mathlib.Core.Bool.{true, false, _&&_}
+use mathlib.Core.List.{[], _∷_}
 use mathlib.Core.Logic.{_⊎_, inl, inr}
 use mathlib.Core.Path.{_≡_, refl, sym, ap, _∙_}
-use Prim.Native.Nat.{ℕ, zero, suc, _+_, _-_, _≤_, _<_}
+use Prim.Native.Nat.{ℕ, _+_, _-_, _≤_, _<_}
 use native.Mathlib.Omega.{arith}
-use lib.Dec.{T, eqb, ltb, leb}
-use Rattle.std.proofs.shelf.Tests.{and-parts, and-from, or-cases, or-from, or-left, or-right, eqb-true, eq-eqb, ltb-true, leb-true, lt-ltb, le-leb, cases-order, both-ways}
+use lib.Dec.{eqb, ltb, leb}
+use Rattle.std.proofs.shelf.Tests.{and-parts, and-from, or-cases, or-left, or-right, eqb-true, eq-eqb, ltb-true, leb-true, cases-order, both-ways}
 use Rattle.std.proofs.shelf.Ways.{tells}
-use Rattle.log.specs.Sectors.{Sectors, Run, covers}
-use Rattle.log.proofs.Steps.{from-T, from-not-T, to-T, to-not-T}
+use Rattle.log.specs.Sectors.{Run, covers}
+use Rattle.log.proofs.Steps.{from-T, to-T, to-not-T}
 use Rattle.log.proofs.Unique.{same-length}
 use Rattle.table.specs.declared.node.Entry.{Entry}
 use Rattle.space.specs.Extents.{Starts, free-of, total, Spaced, in-list}

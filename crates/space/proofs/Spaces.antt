@@ -1,6 +1,6 @@
 -- What the invariants of a space say of its two lists of extents.
 use mathlib.Core.Logic.{∥∥₁-elim}
-use mathlib.Core.List.{List, [], _∷_}
+use mathlib.Core.List.{[], _∷_}
 use mathlib.Core.Bool.{true}
 use mathlib.Core.Path.{_≡_, refl, sym, ap, _∙_}
 use Prim.Native.Nat.{ℕ, _+_, _≤_}
@@ -17,7 +17,7 @@ use Rattle.table.specs.declared.node.Entry.{Entry}
 use Rattle.table.specs.Pairs.{Ordered, under, last}
 use Rattle.table.specs.StartTable.{pairs as starts}
 use Rattle.table.specs.LengthTable.{pairs as lengths}
-use Rattle.table.proofs.Soundness.{Known, known}
+use Rattle.table.proofs.Soundness.{known}
 use Rattle.space.specs.Extents.{Starts, Spaced, in-list}
 use Rattle.space.specs.Free.{sectors-of, free-in}
 use Rattle.space.specs.Tables.{Moved}

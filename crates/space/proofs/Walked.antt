@@ -2,13 +2,12 @@
 use mathlib.Core.List.{List, [], _∷_, _++_, append-assoc, append-nil}
 use mathlib.Core.Logic.{inl, inr}
 use mathlib.Core.Path.{_≡_, refl, sym, ap, _∙_, subst}
-use Prim.Native.Nat.{ℕ, _+_, _-_, _≤_, _<_}
+use Prim.Native.Nat.{ℕ, _+_, _-_, _≤_}
 use native.Mathlib.Omega.{arith}
-use lib.Dec.{T}
 use lib.ListN.{length, length-append}
 use Rattle.std.proofs.shelf.Tests.{cases-order}
 use Rattle.std.specs.declared.option.Option.the-variants.{Some, None}
-use Rattle.log.specs.Sectors.{Sectors, Run, used}
+use Rattle.log.specs.Sectors.{Sectors, used}
 use Rattle.log.specs.Words.{words-of, entries}
 use Rattle.log.specs.Condensed.{RunsFrom, none, next, all-words, Condensed}
 use Rattle.log.specs.declared.entry.Effect.the-variants.{Allocates}

@@ -1,9 +1,9 @@
 -- The free sectors of a slab as a list of extents by rising start, each a pair of a start and a length.
-use mathlib.Core.Bool.{Bool, true, false, _&&_, _||_}
+use mathlib.Core.Bool.{Bool, false, _&&_, _||_}
 use mathlib.Core.List.{List, [], _∷_}
 use mathlib.Core.Path.{_≡_}
-use Prim.Native.Nat.{ℕ, _+_, _≤_, _<_}
-use lib.Dec.{eqb, ltb}
+use Prim.Native.Nat.{ℕ, _+_, _≤_}
+use lib.Dec.{eqb}
 use Rattle.log.specs.Sectors.{Sectors, covers}
 use Rattle.table.specs.declared.node.Entry.{Entry}
 use Rattle.table.specs.declared.key.LengthKey.{LengthKey}

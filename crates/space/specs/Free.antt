@@ -12,6 +12,7 @@ use Rattle.std.specs.declared.option.Option.the-variants.{Some, None}
 use Rattle.log.specs.Sectors.{Sectors, Run, meets, runs}
 use Rattle.log.specs.Replay.{give-back, replay}
 use Rattle.log.specs.Condensed.{Condensed}
+use Rattle.log.specs.Fit.{BestFit}
 use Rattle.log.specs.declared.refusal.Refusal.{Refusal}
 use Rattle.log.specs.declared.refusal.Refusal.the-variants.{LogFull}
 use Rattle.log.specs.declared.fault.Fault.{Fault}
@@ -32,9 +33,7 @@ free-in space = free-of (pairs (space .«by_start»))
 -- the shortest free extent with at least so many sectors, and of equally short ones the lowest; nothing if there is none
 abbrev pub Fits : Sectors → ℕ → Option Extent → Type 0
 Fits free want None = (s l : ℕ) → Run free s l → l < want
-Fits free want (Some e) =
-    Run free (e .start) (e .length) × (want ≤ e .length) ×
-    ((s l : ℕ) → Run free s l → want ≤ l → (e .length < l) ⊎ ((e .length ≡ l) × (e .start ≤ s)))
+Fits free want (Some e) = BestFit free want (e .start) (e .length)
 
 -- the lowest longest run of the set that begins at or after a sector; nothing if there is none
 abbrev pub Follows : Sectors → ℕ → Option Extent → Type 0

@@ -6,7 +6,7 @@ use native.Mathlib.Omega.{arith}
 use native.Mathlib.Nat.{mod-add-div, div-div-eq-div-mul, pow-succ', add-assoc}
 use lib.ListN.{length, getD}
 use borrow.Author.Needs.{needs}
-use borrow.Rule.Slice.PartMut.{putMid, postOf}
+use borrow.Rule.Slice.PartMut.{putMid}
 use Rattle.std.proofs.shelf.Lists.{places}
 use Rattle.store.specs.Bytes.{le, SameOutside, Written}
 

@@ -7,7 +7,7 @@ use native.Mathlib.Omega.{arith}
 use native.Mathlib.Numerals.{add-one}
 use lib.ListN.{length, getD}
 use Rattle.std.proofs.shelf.Tests.{and-from, le-leb, lt-ltb, eq-eqb, cond-true, cond-false}
-use Rattle.store.specs.Bytes.{le, le32, le64, SameOutside}
+use Rattle.store.specs.Bytes.{le, le64, SameOutside}
 use Rattle.store.specs.Image.{MeetsRule, meets-rule, rule-met, words-at, words-of, capacity-of, length-words-at, count-field, capacity-field, first-field, end-field}
 use Rattle.store.specs.Changes.{OnlyPlaceAndCount, EmptyChanges, NotYetAdded}
 use Rattle.store.proofs.Digits.{le-same}

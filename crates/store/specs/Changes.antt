@@ -8,7 +8,6 @@ use Rattle.std.specs.declared.result.Result.the-variants.{Ok, Err}
 use Rattle.log.specs.declared.refusal.Refusal.{Refusal}
 use Rattle.log.specs.declared.refusal.Refusal.the-variants.{BadHeader}
 use Rattle.store.specs.declared.header_rule.Header.{Header}
-use Rattle.store.specs.Bytes.{SameOutside}
 use Rattle.store.specs.Image.{MeetsRule, header-bytes, places-for, count-field, capacity-field, first-field, end-field, words-of, capacity-of}
 
 -- the four figures of the header h are those of the area

@@ -10,7 +10,7 @@ use store::ImageStore;
 use store::LogStore;
 
 // Adds a word to the image in the area.
-pub fn record_word(area: &mut [u8], w: u64) -> Result<(), Refusal>
+pub(crate) fn record_word(area: &mut [u8], w: u64) -> Result<(), Refusal>
     ensures adds { λ r. ⌜ Adds (capacity-of (now (area .entry))) (words-of (now (area .entry))) (words-of (now (area .exit))) w r ⌝ }
     ensures changes { λ r. ⌜ AddChanges (now (area .entry)) (now (area .exit)) r ⌝ }
 {

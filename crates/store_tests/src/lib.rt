@@ -8,5 +8,3 @@ mod image_tests;
 mod own_tests;
 #[cfg(test)]
 mod refusals;
-
-pub use client::record_word;

@@ -1,7 +1,6 @@
 -- The bytes stand where they were copied to, and the others are as before.
-use mathlib.Core.Path.{_≡_, ap, subst}
-use mathlib.Core.List.{List}
-use Prim.Native.Nat.{ℕ, _+_, _-_}
+use mathlib.Core.Path.{_≡_}
+use Prim.Native.Nat.{_+_, _-_}
 use lib.ListN.{length}
 use native.Mathlib.Omega.{arith}
 use Rattle.store.proofs.Digits.{overwritten}

@@ -1,14 +1,14 @@
 -- The places are counted first, so that each word finds one.
-use mathlib.Core.List.{[], _++_, append-nil}
+use mathlib.Core.List.{_++_, append-nil}
 use mathlib.Core.Path.{_≡_, refl, sym, ap, _∙_}
-use Prim.Native.Nat.{ℕ, _≤_, _<_}
+use Prim.Native.Nat.{ℕ, _<_}
 use native.Mathlib.Omega.{arith}
 use lib.ListN.{length}
 use Rattle.std.proofs.shelf.Lists.{take-all}
 use Rattle.std.proofs.shelf.Maps.{nth-getD}
 use Rattle.log.specs.Words.{words-of}
 use Rattle.log.proofs.Written.{words-length}
-use Rattle.store.proofs.Appended.{Appended, next-fits, one-appended}
+use Rattle.store.proofs.Appended.{next-fits, one-appended}
 use Rattle.store.proofs.extents.add_extent.Needs as need
 
 pub returns-then-places-needed : need.returns-then-places-needed

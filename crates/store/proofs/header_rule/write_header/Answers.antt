@@ -1,5 +1,5 @@
 -- The four numbers stand in the header, and the bytes behind it are as before.
-use mathlib.Core.Path.{_≡_, sym, _∙_}
+use mathlib.Core.Path.{sym, _∙_}
 use native.Mathlib.Omega.{arith}
 use Rattle.store.proofs.Digits.{le-apart}
 use Rattle.store.proofs.header_rule.write_header.Needs as need

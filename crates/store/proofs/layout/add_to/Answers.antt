@@ -1,10 +1,9 @@
 -- The list has the new word at its end, and only the bytes of its place and of the count have changed.
-use mathlib.Core.Path.{_≡_, refl, sym, ap, _∙_}
+use mathlib.Core.Path.{refl, ap, _∙_}
 use Prim.Native.Nat.{_+_, _*_, _<_}
 use native.Mathlib.Omega.{arith}
-use lib.ListN.{length}
 use borrow.Author.Needs.{needs}
-use Rattle.store.specs.Image.{count-field, capacity-field, first-field}
+use Rattle.store.specs.Image.{count-field, capacity-field}
 use Rattle.store.proofs.Images.{count-met, capacity-met, added, Added}
 use Rattle.store.proofs.layout.add_to.Needs as need
 

@@ -1,5 +1,5 @@
 -- The place is past the words, or has the word of that entry.
-use mathlib.Core.Path.{_≡_, sym, _∙_, ap}
+use mathlib.Core.Path.{sym, _∙_, ap}
 use native.Mathlib.Omega.{arith}
 use Rattle.std.specs.declared.option.Option.the-variants.{Some}
 use Rattle.log.proofs.Written.{word-there, no-word-there}

@@ -18,4 +18,4 @@ pub returns-in-Some : need.returns-in-Some
 returns-in-Some c =
     let now = c .args .self .now in
     let b = best-in now _ _ (c .in-Some .e) (c .lowest-from .ensures) (c .in-Some .is) in
-    (run-in now _ _ (listed-key now (c .in-Some .e .key) (b .listed)), b .enough, λ s l r w. b .others s l (keyed-in now s l r) w)
+    record { extent = run-in now _ _ (listed-key now (c .in-Some .e .key) (b .listed)); enough = b .enough; others = λ s l r w. b .others s l (keyed-in now s l r) w }

@@ -1,8 +1,7 @@
 -- The tests are made in order, and what is left is the run granted out of its free extent.
-use mathlib.Core.Path.{_≡_, refl, sym, ap, _∙_}
-use Prim.Native.Nat.{_+_, _≤_, _<_}
+use mathlib.Core.Path.{refl, sym, ap, _∙_}
+use Prim.Native.Nat.{_<_}
 use native.Mathlib.Omega.{arith}
-use lib.ListN.{length}
 use Rattle.std.proofs.shelf.Tests.{and-parts, ltb-true, leb-true}
 use Rattle.std.specs.declared.result.Result.the-variants.{Ok}
 use Rattle.log.specs.Limits.{most-extents}

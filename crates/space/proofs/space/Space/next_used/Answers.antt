@@ -1,6 +1,5 @@
 -- The run is longest, and none begins between the sector and it.
 use mathlib.Core.Logic.{inl, inr}
-use mathlib.Core.Path.{_≡_}
 use Prim.Native.Nat.{_-_}
 use native.Mathlib.Omega.{arith}
 use Rattle.std.proofs.shelf.Tests.{cases-lt, both-ways}

@@ -1,14 +1,13 @@
 -- Each word does what replay says of it.
-use mathlib.Core.Path.{_≡_, refl, sym, ap, _∙_}
+use mathlib.Core.Path.{refl, sym, ap, _∙_}
 use native.Mathlib.Omega.{arith}
 use Prim.Native.Nat.{_+_}
 use lib.Dec.{ltb}
 use lib.ListN.{drop}
-use Rattle.std.specs.declared.result.Result.the-variants.{Ok}
 use Rattle.log.specs.Words.{read}
 use Rattle.log.specs.Replay.{take-word, replay-from, replay}
 use Rattle.space.specs.Free.{sectors-of, free-in}
-use Rattle.space.proofs.Replayed.{Sofar, word-done, word-fails, all-done}
+use Rattle.space.proofs.Replayed.{word-done, word-fails, all-done}
 use Rattle.space.proofs.space.Space.replay.Needs as need
 
 pub loop-place-holds : need.loop-place-holds

@@ -1,6 +1,5 @@
 -- The used sectors go on to the next free extent, or to the end of the slab.
 use mathlib.Core.Path.{sym, _∙_}
-use native.Mathlib.Omega.{arith}
 use Rattle.space.proofs.Asked.{next-in}
 use Rattle.space.proofs.InUse.{to-next, to-size}
 use Rattle.space.proofs.Searched.{next-none}

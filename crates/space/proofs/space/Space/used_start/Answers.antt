@@ -1,6 +1,5 @@
 -- A run of used sectors begins behind the free extent that reaches the sector, or further on.
-use mathlib.Core.Path.{_≡_, sym, ap, _∙_, subst}
-use Prim.Native.Nat.{_+_}
+use mathlib.Core.Path.{sym, _∙_, subst}
 use native.Mathlib.Omega.{arith}
 use Rattle.log.specs.Sectors.{used}
 use Rattle.space.specs.Free.{sectors-of, free-in}

@@ -1,12 +1,12 @@
 -- The places are counted first, so that each run's words find theirs.
 use mathlib.Core.List.{[], _++_, append-nil}
-use mathlib.Core.Path.{_≡_, refl, sym, ap, _∙_}
+use mathlib.Core.Path.{refl, sym, ap, _∙_}
 use native.Mathlib.Omega.{arith}
 use Rattle.log.specs.Sectors.{used}
 use Rattle.log.proofs.Unique.{condensed-exists}
 use Rattle.space.specs.Free.{sectors-of, free-in}
 use Rattle.space.proofs.InUse.{run-ends}
-use Rattle.space.proofs.Walked.{Writing, walk-starts, walk-ends, write-fits, write-on}
+use Rattle.space.proofs.Walked.{walk-starts, walk-ends, write-fits, write-on}
 use Rattle.space.proofs.space.Space.write_condensed.Needs as need
 
 pub returns-then-places-needed : need.returns-then-places-needed
