@@ -9,6 +9,7 @@ use log::Extent;
 use store::ImageLogStore;
 use store::ImageStore;
 use store::LogStore;
+use store::add_extent;
 use store::format;
 
 // Eleven places behind the header.
@@ -17,21 +18,12 @@ const SAMPLE_BYTES: usize = 104;
 // A debug word: action 1, pass 5, transaction group 1000.
 const NOTE: u64 = 0x9014_0000_0000_03E8;
 
-// Adds the words of an extent.
-fn add_extent<S: LogStore>(store: &mut S, effect: Effect, extent: Extent) -> Result<(), Failure> {
-    for n in 0..extent.entries() {
-        if let Some(word) = extent.nth_word(effect, n) {
-            store.add(word)?;
-        }
-    }
-    Ok(())
-}
-
 fn add_words<S: LogStore>(store: &mut S) -> Result<(), Failure> {
     add_extent(store, Effect::Allocates, Extent::new(0, 35)?)?;
     add_extent(store, Effect::Allocates, Extent::new(50, 40_000)?)?;
     store.add(NOTE)?;
-    add_extent(store, Effect::Frees, Extent::new(10, 20)?)
+    add_extent(store, Effect::Frees, Extent::new(10, 20)?)?;
+    Ok(())
 }
 
 // Makes a file with a small image, and lists it.

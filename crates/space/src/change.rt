@@ -1,13 +1,11 @@
 // Granting and giving back extents.
-ghost use mathlib.Core.Bool.{true};
 ghost use mathlib.Core.Path.{_≡_};
-ghost use Prim.Native.Nat.{ℕ, _+_, _-_, _^_, _≤_, _<_};
+ghost use Prim.Native.Nat.{_+_, _-_, _^_, _≤_, _<_};
 ghost use lib.ListN.{length};
 ghost use Rattle.log.specs.Sectors.{meets};
 ghost use Rattle.log.specs.Replay.{grant, granting, returning};
 ghost use Rattle.std.specs.declared.option.Option.the-variants.{Some};
 ghost use Rattle.table.specs.StartTable.{pairs as starts};
-ghost use Rattle.space.specs.Extents.{in-list};
 ghost use Rattle.space.specs.Free.{sectors-of, free-in, Changes};
 ghost use Rattle.space.specs.Tables.{Moved, Holds, LeftEdge, RightEdge};
 use crate::space::Space;

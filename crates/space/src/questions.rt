@@ -1,8 +1,7 @@
 // What can be asked of a space.
-ghost use mathlib.Core.Bool.{Bool};
 ghost use mathlib.Core.Path.{_≡_};
-ghost use Prim.Native.Nat.{ℕ, _+_, _≤_, _<_};
-ghost use Rattle.log.specs.Sectors.{meets, count, runs, used};
+ghost use Prim.Native.Nat.{_+_};
+ghost use Rattle.log.specs.Sectors.{meets, count, runs};
 ghost use Rattle.space.specs.Free.{sectors-of, free-in, Fits, Follows, Longest, Standing};
 use crate::space::Space;
 use log::Extent;

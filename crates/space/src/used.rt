@@ -1,7 +1,7 @@
 // The runs of sectors in use.
 ghost use mathlib.Core.Bool.{false};
 ghost use mathlib.Core.Path.{_≡_};
-ghost use Prim.Native.Nat.{ℕ, _-_, _≤_, _<_};
+ghost use Prim.Native.Nat.{_-_, _≤_, _<_};
 ghost use Rattle.log.specs.Sectors.{used};
 ghost use Rattle.space.specs.Free.{sectors-of, free-in, Follows};
 ghost use Rattle.space.specs.Tables.{UsedFrom, UsedTo};

@@ -1,6 +1,6 @@
 // Little-endian numbers in an area of bytes.
 ghost use mathlib.Core.Path.{_≡_};
-ghost use Prim.Native.Nat.{ℕ, _+_, _≤_};
+ghost use Prim.Native.Nat.{_+_, _≤_};
 ghost use lib.ListN.{length};
 ghost use Rattle.store.specs.Bytes.{le32, le64, SameOutside, Written};
 

@@ -1,6 +1,6 @@
 // The header of an image, and the rule that an area of bytes has to meet to be one.
 ghost use mathlib.Core.Path.{_≡_};
-ghost use Prim.Native.Nat.{ℕ, _≤_};
+ghost use Prim.Native.Nat.{_≤_};
 ghost use lib.ListN.{length};
 ghost use Rattle.store.specs.Bytes.{SameOutside};
 ghost use Rattle.store.specs.Image.{fits-test, header-bytes};

@@ -1,6 +1,6 @@
 // A store whose words lie in an area of bytes that is lent to it.
 ghost use mathlib.Core.Path.{_≡_};
-ghost use mathlib.Core.List.{List, []};
+ghost use mathlib.Core.List.{[]};
 ghost use denote.Ref.{now, name};
 ghost use Rattle.store.specs.Answers.{Adds};
 ghost use Rattle.store.specs.Image.{words-of, capacity-of, image-bounded, image-fits};

@@ -1,7 +1,7 @@
 // The words of an image in an area of bytes.
 ghost use mathlib.Core.Path.{_≡_};
-ghost use mathlib.Core.List.{List, []};
-ghost use Prim.Native.Nat.{ℕ, _+_, _≤_};
+ghost use mathlib.Core.List.{[]};
+ghost use Prim.Native.Nat.{_+_, _≤_};
 ghost use lib.ListN.{length};
 ghost use Rattle.store.specs.Answers.{Reads, Adds};
 ghost use Rattle.store.specs.Bytes.{le64, SameOutside};

@@ -1,7 +1,7 @@
 // A store that holds its words itself, in an array of its own.
 ghost use mathlib.Core.Path.{_≡_};
-ghost use mathlib.Core.List.{List, []};
-ghost use Prim.Native.Nat.{ℕ, _≤_};
+ghost use mathlib.Core.List.{[]};
+ghost use Prim.Native.Nat.{_≤_};
 ghost use lib.Dec.{lit<};
 ghost use Rattle.store.specs.Own.{own-places, own-words, own-bounded};
 use crate::log_store::LogStore;

@@ -1,6 +1,4 @@
 // A caller that lends an area to an image store, and knows the area's words when the store is let go.
-ghost use mathlib.Core.Path.{_≡_};
-ghost use mathlib.Core.List.{List};
 ghost use Rattle.store.specs.Answers.{Adds};
 ghost use Rattle.store.specs.Image.{words-of, capacity-of};
 ghost use Rattle.store.specs.Changes.{AddChanges};

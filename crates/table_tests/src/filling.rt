@@ -64,3 +64,10 @@ fn fewest_nodes() -> Result<(), Fail> {
     check_eq(least_nodes(15).unwrap_or(0), 1596)?;
     check(least_nodes(16).is_none())
 }
+
+// A record of two 64-bit numbers takes 24 bytes.
+#[test]
+fn records_are_small() -> Result<(), Fail> {
+    check(std::mem::size_of::<StartTable>() <= 1024 * 24 + 8)?;
+    check(std::mem::size_of::<LengthTable>() <= 1024 * 24 + 8)
+}
