@@ -92,19 +92,21 @@ fn turn<K: Copy, V: Copy>(
     requires { ⌜ ((h : Tree K V) × (l : Tree K V) × RoomOn left (now nodes) (item at key value) heavy light h l × Heavy h l) ⌝ }
     ensures { λ i. ⌜ ((h l : Tree K V) → RoomOn left (now (nodes .entry)) (item at key value) heavy light h l → Heavy h l → Mended (now (nodes .entry)) (now (nodes .exit)) i (row-on left (inorder h) (item at key value) (inorder l)) (tall h)) ⌝ }
 {
-    let top = *read(nodes, heavy);
-    let outer = child(&top, left);
-    let inner = child(&top, !left);
+    let top = read(nodes, heavy);
+    let outer = child(top, left);
+    let inner = child(top, !left);
+    let (top_key, top_value) = (top.key, top.value);
     if height(nodes, inner) <= height(nodes, outer) {
         let low = join_on(nodes, left, at, key, value, inner, light);
-        join_on(nodes, left, heavy, top.key, top.value, outer, low)
+        join_on(nodes, left, heavy, top_key, top_value, outer, low)
     } else {
-        let mid = *read(nodes, inner);
-        let near = child(&mid, left);
-        let far = child(&mid, !left);
-        let a = join_on(nodes, left, heavy, top.key, top.value, outer, near);
+        let mid = read(nodes, inner);
+        let near = child(mid, left);
+        let far = child(mid, !left);
+        let (mid_key, mid_value) = (mid.key, mid.value);
+        let a = join_on(nodes, left, heavy, top_key, top_value, outer, near);
         let b = join_on(nodes, left, at, key, value, far, light);
-        join_on(nodes, left, inner, mid.key, mid.value, a, b)
+        join_on(nodes, left, inner, mid_key, mid_value, a, b)
     }
 }
 

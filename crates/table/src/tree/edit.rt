@@ -69,8 +69,9 @@ fn lift<K: Copy, V: Copy>(nodes: &mut [Node<K, V>], root: u16) -> u16
         left
     } else {
         let min = take_min(nodes, right);
-        let m = *read(nodes, min.at);
-        balance(nodes, false, min.at, m.key, m.value, min.rest, left)
+        let m = read(nodes, min.at);
+        let (key, value) = (m.key, m.value);
+        balance(nodes, false, min.at, key, value, min.rest, left)
     }
 }
 

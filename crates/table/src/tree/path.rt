@@ -66,9 +66,10 @@ pub(crate) fn climb<K: Copy, V: Copy>(
     while i > 0 {
         i -= 1;
         let step = step_at(path, i);
-        let n = *read(nodes, step.at);
-        let other = child(&n, !step.left);
-        sub = balance(nodes, step.left, step.at, n.key, n.value, sub, other);
+        let n = read(nodes, step.at);
+        let other = child(n, !step.left);
+        let (key, value) = (n.key, n.value);
+        sub = balance(nodes, step.left, step.at, key, value, sub, other);
     }
     sub
 }

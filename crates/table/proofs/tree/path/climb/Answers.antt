@@ -8,21 +8,21 @@ step-at-step-requires g c κs =
     let p = c .loop-i .inv (c .pre .0) (c .pre .1) (c .pre .2) (c .pre .3) in
     path-within _ _ (p .fs) _ (p .climb .along) (omega (arith, p .climb .long))
 
-pub read-requires : need.read-requires
-read-requires g c κs =
+pub read-n-requires : need.read-n-requires
+read-n-requires g c κs =
     let p = c .loop-i .inv (c .pre .0) (c .pre .1) (c .pre .2) (c .pre .3) in
     step-within _ _ (p .fs) _ _ (p .climb .along) (omega (arith, p .climb .long)) (c .step-at-step .ensures)
 
 pub balance-sub-requires : need.balance-sub-requires
 balance-sub-requires g c κs =
     let p = c .loop-i .inv (c .pre .0) (c .pre .1) (c .pre .2) (c .pre .3) in
-    let k = ready _ _ _ _ _ _ _ _ p (omega arith) _ _ _ (c .step-at-step .ensures) (c .read .ensures) (c .child-other .ensures) in
+    let k = ready _ _ _ _ _ _ _ _ p (omega arith) _ _ _ (c .step-at-step .ensures) (c .read-n .ensures) (c .child-other .ensures) in
     (p .tree, k .o, k .room, k .uneven)
 
 pub loop-i-again : need.loop-i-again
 loop-i-again g c = λ fs t h cl.
     let p = c .loop-i .inv fs t h cl in
-    let k = ready _ _ _ _ _ _ _ _ p (omega arith) _ _ _ (c .step-at-step .ensures) (c .read .ensures) (c .child-other .ensures) in
+    let k = ready _ _ _ _ _ _ _ _ p (omega arith) _ _ _ (c .step-at-step .ensures) (c .read-n .ensures) (c .child-other .ensures) in
     k .next _ _ (c .balance-sub .ensures (p .tree) (k .o) (k .room) (k .uneven))
 
 pub returns : need.returns
