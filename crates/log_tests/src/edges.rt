@@ -1,5 +1,5 @@
 // The least and the greatest sizes and extents, and their neighbours.
-use log::{Extent, Refusal, Size};
+use slab_log::{Extent, Refusal, Size};
 use std::test::Fail;
 
 #[test]

@@ -1,5 +1,7 @@
 // Tests of the crate log: the edges of sizes and extents, words read and written, the refusals' numbers.
 
+#![tactic(auto)]
+
 #[cfg(test)]
 mod edges;
 #[cfg(test)]

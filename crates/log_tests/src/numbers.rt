@@ -1,5 +1,5 @@
 // The number of each refusal, with the values that some carry.
-use log::{Fault, Refusal, Stop};
+use slab_log::{Fault, Refusal, Stop};
 
 #[test]
 fn refusals_in_order(rt: HostRuntime) {

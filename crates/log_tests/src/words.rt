@@ -1,5 +1,5 @@
 // Words read and written, on examples.
-use log::{DebugWord, Effect, Entry, Extent, Fault, Span, decode, encode};
+use slab_log::{DebugWord, Effect, Entry, Extent, Fault, Span, decode, encode};
 use std::test::Fail;
 
 #[test]

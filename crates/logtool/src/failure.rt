@@ -1,6 +1,6 @@
 // What can go wrong, and how it is told.
 use crate::word_text::fault_name;
-use log::{Refusal, Stop};
+use slab_log::{Refusal, Stop};
 use std::alloc::AllocError;
 use std::{fmt, io};
 

@@ -3,7 +3,7 @@ use crate::failure::{Failure, on_file};
 use crate::listing::{write_audit, write_header, write_words};
 use crate::replacement::{create_new, replace_file};
 use crate::slabs::{audit_log, condense_log};
-use log::Size;
+use slab_log::Size;
 use std::fs;
 use std::io::{BufWriter, Write};
 use store::{HEADER_BYTES, Header, ImageStore, check, format};

@@ -1,7 +1,7 @@
 // The lines that tell of an image: its header's figures, its words, and what its log holds.
 use crate::failure::Failure;
 use crate::word_text::WordText;
-use slab::Audit;
+use disk_slab::Audit;
 use std::io::Write;
 use store::{Header, LogStore};
 

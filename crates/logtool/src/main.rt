@@ -1,4 +1,6 @@
 // logtool: formats, checks, lists, audits and condenses log images on disk.
+#![tactic(auto)]
+
 mod command;
 mod failure;
 mod files;

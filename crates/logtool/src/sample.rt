@@ -1,7 +1,7 @@
 // A small image, to try the tool on.
 use crate::failure::Failure;
 use crate::files::{list_file, write_new};
-use log::{Effect, Extent};
+use slab_log::{Effect, Extent};
 use store::{ImageStore, LogStore, add_extent, format};
 
 // Eleven places behind the header.

@@ -1,10 +1,10 @@
 // What the tool does with a log as the log of a slab: its audit, and the condensed log in its place.
-ghost use Rattle.slab.specs.View.{loaded};
-ghost use Rattle.slab.specs.Answers.{Condenses, NeverFull};
-ghost use Rattle.slab.specs.Audits.{Audits};
+ghost use Rattle.disk_slab.specs.View.{loaded};
+ghost use Rattle.disk_slab.specs.Answers.{Condenses, NeverFull};
+ghost use Rattle.disk_slab.specs.Audits.{Audits};
 
-use log::{Refusal, Size, Stop};
-use slab::{Audit, Cold};
+use slab_log::{Refusal, Size, Stop};
+use disk_slab::{Audit, Cold};
 use store::LogStore;
 
 // What the log of a store holds at a size, or its first fault.

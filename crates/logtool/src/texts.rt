@@ -1,7 +1,7 @@
 // Tests of what the tool says of words and failures.
 use crate::failure::Failure;
 use crate::word_text::WordText;
-use log::Refusal;
+use slab_log::Refusal;
 use std::test::Fail;
 
 #[test]

@@ -1,5 +1,5 @@
 // A word of a log in words.
-use log::{DebugWord, Entry, Fault, decode};
+use slab_log::{DebugWord, Entry, Fault, decode};
 use std::fmt;
 
 // What the word says, and the word itself in hexadecimal.

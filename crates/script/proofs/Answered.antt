@@ -1,19 +1,19 @@
 -- What a line is answered with, from what the slab's call answered and left.
 use Rattle.std.proofs.Common.{◌≡◌, ℕ, false, List, Ok, Err, Result, refl, arith}
-use Rattle.log.specs.Make.{MakesExtent}
-use Rattle.log.specs.declared.extent.Extent.{Extent}
-use Rattle.log.specs.declared.refusal.Refusal.{Refusal}
-use Rattle.log.specs.declared.refusal.Refusal.TheVariants.{BadLine}
+use Rattle.slab_log.specs.Make.{MakesExtent}
+use Rattle.slab_log.specs.declared.extent.Extent.{Extent}
+use Rattle.slab_log.specs.declared.refusal.Refusal.{Refusal}
+use Rattle.slab_log.specs.declared.refusal.Refusal.TheVariants.{BadLine}
 use Rattle.store.specs.declared.log_store.LogStore.{Ghosts}
-use Rattle.slab.specs.View.{View}
-use Rattle.slab.specs.declared.state.Live.{Live}
+use Rattle.disk_slab.specs.View.{View}
+use Rattle.disk_slab.specs.declared.state.Live.{Live}
 use Rattle.script.specs.Turns.{Again, Stays, turn_reply, after_turn}
 use Rattle.script.specs.declared.stage.Stage.{Stage}
 use Rattle.script.specs.declared.stage.Turn.{Turn}
 use Rattle.script.specs.declared.stage.Turn.TheVariants.{Serve, Refuse}
 use Rattle.script.specs.declared.stage.Stage.TheVariants.{Fresh, Refused, Serving, Moving}
-use Rattle.slab.specs.Answers.{Allocates, after_allocate, Frees, after_free, Condenses, with_words, Shows}
-use Rattle.slab.specs.declared.figures.Figures.{Figures as Slab-figures}
+use Rattle.disk_slab.specs.Answers.{Allocates, after_allocate, Frees, after_free, Condenses, with_words, Shows}
+use Rattle.disk_slab.specs.declared.figures.Figures.{Figures as Slab-figures}
 use Rattle.script.specs.Stages.{Seen, fresh, refused, serving, seen, moving}
 use Rattle.script.specs.Answers.{Answers, at, done, words, sized, not_sized, after_refusal, against_form, second_size, allocates, frees, condenses, shows, reloads}
 use Rattle.script.specs.declared.command.Command.{Command}

@@ -2,7 +2,7 @@
 use Rattle.std.proofs.Common.{◌≡◌, ℕ, ◌+◌, ◌-◌, ◌*◌, ◌^◌, ◌<◌, ◌≤◌, true, false, leb, ◌≢◌, List, [], ◌∷◌, length, get_or, drop, Ok, Err, sym, refl, ap, ◌∙◌, arith, pow-add}
 use Rattle.std.proofs.lemmas.List.{drop_more, drop_all}
 use Rattle.std.proofs.lemmas.Bool.{leb-true, le-leb, lt-leb, and_parts, and_from, and_right}
-use Rattle.log.specs.declared.refusal.Refusal.TheVariants.{BadLine}
+use Rattle.slab_log.specs.declared.refusal.Refusal.TheVariants.{BadLine}
 use Rattle.script.specs.Numbers.{is_digit, front_digits, value_after, value, counted, number_at}
 
 -- the digits from one place on stand behind those from an earlier place, which write v

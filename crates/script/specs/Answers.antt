@@ -1,13 +1,13 @@
 -- What each line of a script is answered with, and what it leaves.
 use Rattle.std.specs.Prelude.{◌≡◌, ℕ, Bool, true, false, List, Ok, Err, Result}
-use Rattle.log.specs.Make.{MakesSize, MakesExtent}
-use Rattle.log.specs.declared.extent.Extent.{Extent}
-use Rattle.log.specs.declared.size.Size.{Size as Slab-size}
-use Rattle.log.specs.declared.refusal.Refusal.{Refusal}
-use Rattle.log.specs.declared.refusal.Refusal.TheVariants.{BadLine}
-use Rattle.slab.specs.View.{View, loaded}
-use Rattle.slab.specs.Answers.{Allocates, after_allocate, Frees, after_free, Condenses, with_words, Shows}
-use Rattle.slab.specs.declared.figures.Figures.{Figures as Slab-figures}
+use Rattle.slab_log.specs.Make.{MakesSize, MakesExtent}
+use Rattle.slab_log.specs.declared.extent.Extent.{Extent}
+use Rattle.slab_log.specs.declared.size.Size.{Size as Slab-size}
+use Rattle.slab_log.specs.declared.refusal.Refusal.{Refusal}
+use Rattle.slab_log.specs.declared.refusal.Refusal.TheVariants.{BadLine}
+use Rattle.disk_slab.specs.View.{View, loaded}
+use Rattle.disk_slab.specs.Answers.{Allocates, after_allocate, Frees, after_free, Condenses, with_words, Shows}
+use Rattle.disk_slab.specs.declared.figures.Figures.{Figures as Slab-figures}
 use Rattle.script.specs.Stages.{Seen, fresh, refused, serving}
 use Rattle.script.specs.declared.command.Command.{Command}
 use Rattle.script.specs.declared.command.Command.TheVariants.{Size, Allocate, Free, Condense, Figures, Reload}

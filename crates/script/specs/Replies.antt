@@ -1,6 +1,6 @@
 -- The bytes of a reply line.
 use Rattle.std.specs.Prelude.{◌≡◌, ℕ, List, [], ◌∷◌, ◌++◌, Ok, Err, codes, decimal, Result}
-use Rattle.log.specs.Numbers.{number_of}
+use Rattle.slab_log.specs.Numbers.{number_of}
 use Rattle.script.specs.declared.reply.Reply.{Reply}
 use Rattle.script.specs.declared.reply.Reply.TheVariants.{Done, At, Words, Figures, No}
 

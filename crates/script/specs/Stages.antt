@@ -1,8 +1,8 @@
 -- How far the run of a script has come, and what can be seen of it.
 use Rattle.std.specs.Prelude.{ℕ, Bool, true, false, List, [], Ok, Err, Result}
-use Rattle.log.specs.declared.refusal.Refusal.{Refusal}
+use Rattle.slab_log.specs.declared.refusal.Refusal.{Refusal}
 use Rattle.store.specs.declared.log_store.LogStore.{Ghosts}
-use Rattle.slab.specs.View.{View, view, Sound}
+use Rattle.disk_slab.specs.View.{View, view, Sound}
 use Rattle.script.specs.declared.command.Command.{Command}
 use Rattle.script.specs.declared.command.Command.TheVariants.{Size, Allocate, Free, Condense, Figures, Reload}
 use Rattle.script.specs.declared.stage.Stage.{Stage}

@@ -1,7 +1,7 @@
 -- What leads a script from one stage to another.
 use Rattle.std.specs.Prelude.{◌≡◌, true, false, Some, None, Ok, Err, Option, Result}
-use Rattle.log.specs.declared.refusal.Refusal.{Refusal}
-use Rattle.slab.specs.View.{loaded}
+use Rattle.slab_log.specs.declared.refusal.Refusal.{Refusal}
+use Rattle.disk_slab.specs.View.{loaded}
 use Rattle.script.specs.Stages.{Seen, fresh, refused, serving, capacity_of, words_of, is_reload}
 use Rattle.script.specs.Answers.{Sizes}
 use Rattle.script.specs.declared.command.Command.{Command}

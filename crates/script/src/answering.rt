@@ -1,6 +1,6 @@
 // Answering the lines of a script.
 ghost use Rattle.std.specs.Prelude.{◌≡◌, ℕ, true, false, Ok};
-ghost use Rattle.slab.specs.View.{view, Sound};
+ghost use Rattle.disk_slab.specs.View.{view, Sound};
 ghost use Rattle.script.specs.Lines.{command_of};
 ghost use Rattle.script.specs.Stages.{moving, is_reload, asks_reload, seen, capacity_of, words_of, SoundStage};
 ghost use Rattle.script.specs.Answers.{Answers, Sizes, at, done, words};
@@ -12,8 +12,8 @@ use crate::console::Console;
 use crate::line::read_line;
 use crate::reply::Reply;
 use crate::stage::{Stage, Turn};
-use log::{Extent, Refusal, Size};
-use slab::{Cold, Live};
+use slab_log::{Extent, Refusal, Size};
+use disk_slab::{Cold, Live};
 use store::LogStore;
 
 impl<S: LogStore> Console<S> {

@@ -1,4 +1,6 @@
 // Scripts of calls: the lines, what they ask, and the replies.
+#![tactic(auto)]
+
 mod answering;
 mod command;
 mod console;

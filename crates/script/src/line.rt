@@ -4,7 +4,7 @@ ghost use Rattle.script.specs.Lines.{spaced_at, ended, extent_numbers, command_o
 
 use crate::command::Command;
 use crate::number::{Number, read_number};
-use log::Refusal;
+use slab_log::Refusal;
 
 // The most bytes of a line before its line feed.
 const LONGEST_LINE: usize = 64;

@@ -2,7 +2,7 @@
 ghost use Rattle.std.specs.Prelude.{◌≡◌};
 ghost use Rattle.script.specs.Numbers.{number_at};
 
-use log::Refusal;
+use slab_log::Refusal;
 
 // The most digits of a number.
 const MOST_DIGITS: usize = 10;

@@ -1,5 +1,5 @@
 // What a line of a script is answered with.
-use log::Refusal;
+use slab_log::Refusal;
 
 #[derive(Clone, Copy, PartialEq, Eq, Debug)]
 pub enum Reply {
@@ -10,7 +10,7 @@ pub enum Reply {
     // words: how many the condensed log has.
     Words(usize),
     // free, extents, longest, words
-    Figures(slab::Figures),
+    Figures(disk_slab::Figures),
     // no: the refusal's number.
     No(Refusal),
 }

@@ -3,7 +3,7 @@ ghost use Rattle.std.specs.Prelude.{◌≡◌, ◌+◌, ◌≤◌, ◌++◌, len
 ghost use Rattle.script.specs.Replies.{text_of, AddsReply};
 
 use crate::reply::Reply;
-use slab::Figures;
+use disk_slab::Figures;
 use std::alloc::AllocError;
 
 // The most digits of a number of 64 bits.

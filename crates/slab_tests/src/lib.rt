@@ -1,4 +1,6 @@
 // Tests of slabs: refusals, the most free extents, full and condensed logs, audits, the best fit, a slab over an image.
+#![tactic(auto)]
+
 #[cfg(test)]
 mod audits;
 #[cfg(test)]

@@ -1,7 +1,7 @@
 -- The longest runs of free sectors of a space, as extents of its two tables.
 use Rattle.std.proofs.Common.{◌≡◌, ℕ, ◌+◌, ◌≤◌, true, ltb, Some, None, Option, sym, refl, ◌∙◌, inl, inr, arith}
-use Rattle.log.specs.Limits.{most_sectors}
-use Rattle.log.specs.Sectors.{Run}
+use Rattle.slab_log.specs.Limits.{most_sectors}
+use Rattle.slab_log.specs.Sectors.{Run}
 use Rattle.table.specs.declared.node.Entry.{Entry}
 use Rattle.table.specs.declared.key.LengthKey.{LengthKey}
 use Rattle.table.specs.Order.{shorter}

@@ -2,8 +2,8 @@
 use Rattle.std.proofs.Common.{◌≡◌, ℕ, ◌+◌, ◌-◌, ◌<◌, ◌≤◌, Bool, true, false, cond, not, ◌&&◌, ◌||◌, eqb, ltb, ◌⊎◌, [], ◌∷◌, length, refl, inl, inr, arith}
 use Rattle.std.proofs.lemmas.Bool.{ltb-true, ltb-false, both_ways}
 use Rattle.std.proofs.lemmas.Bool.Decides.{nat_tests}
-use Rattle.log.specs.Sectors.{covers}
-use Rattle.log.specs.Replay.{grant, give_back}
+use Rattle.slab_log.specs.Sectors.{covers}
+use Rattle.slab_log.specs.Replay.{grant, give_back}
 use Rattle.table.specs.declared.node.Entry.{Entry}
 use Rattle.table.specs.Pairs.{pair, put, without, alike}
 use Rattle.space.specs.Extents.{Starts, free_of, total, Spaced, in_list}

@@ -3,9 +3,9 @@ use Rattle.std.proofs.Common.{◌≡◌, ℕ, zero, suc, ◌+◌, ◌-◌, ◌<�
 use mathlib.Core.Path.{fun_ext}
 use Rattle.std.proofs.lemmas.Bool.{or_left, or_right, cases_eq, cases_lt, cases_Bool}
 use Rattle.std.proofs.lemmas.Bool.Decides.{nat_tests}
-use Rattle.log.specs.Sectors.{Sectors, used, meets, runs}
-use Rattle.log.specs.Replay.{grant, give_back}
-use Rattle.log.proofs.Steps.{none_meets}
+use Rattle.slab_log.specs.Sectors.{Sectors, used, meets, runs}
+use Rattle.slab_log.specs.Replay.{grant, give_back}
+use Rattle.slab_log.proofs.Steps.{none_meets}
 use Rattle.table.specs.declared.node.Entry.{Entry}
 use Rattle.table.specs.Pairs.{pair, without}
 use Rattle.space.specs.Extents.{Starts, free_of, Spaced, in_list}

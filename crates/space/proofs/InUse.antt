@@ -2,8 +2,8 @@
 use Rattle.std.proofs.Common.{◌≡◌, ℕ, zero, suc, ◌+◌, ◌-◌, ◌<◌, ◌≤◌, Bool, true, false, not, ◌&&◌, ◌⊎◌, sym, refl, ap, ◌∙◌, inl, inr, arith}
 use Rattle.std.proofs.lemmas.Bool.{cases_Bool, cases_lt, both_ways}
 use Rattle.std.proofs.lemmas.Bool.Decides.{nat_tests}
-use Rattle.log.specs.Sectors.{Sectors, Run, used, begins}
-use Rattle.log.proofs.Steps.{from_T, to_T, to_not_T, run_ends}
+use Rattle.slab_log.specs.Sectors.{Sectors, Run, used, begins}
+use Rattle.slab_log.proofs.Steps.{from_T, to_T, to_not_T, run_ends}
 use Rattle.table.specs.declared.node.Entry.{Entry}
 use Rattle.space.specs.Extents.{Starts, free_of, Spaced, in_list}
 use Rattle.space.specs.Tables.{RightEdge, UsedFrom, UsedTo}

@@ -3,9 +3,9 @@ use Rattle.std.proofs.Common.{◌≡◌, ℕ, ◌+◌, ◌-◌, ◌<◌, ◌≤�
 use mathlib.Core.Path.{fun_ext}
 use Rattle.std.proofs.lemmas.Bool.{cases_lt}
 use Rattle.std.proofs.lemmas.Bool.Decides.{nat_tests}
-use Rattle.log.specs.Sectors.{Sectors, Run, meets, runs}
-use Rattle.log.specs.Replay.{grant, give_back}
-use Rattle.log.proofs.Steps.{none_meets, meets_none, to_T, to_not_T}
+use Rattle.slab_log.specs.Sectors.{Sectors, Run, meets, runs}
+use Rattle.slab_log.specs.Replay.{grant, give_back}
+use Rattle.slab_log.proofs.Steps.{none_meets, meets_none, to_T, to_not_T}
 use Rattle.table.specs.declared.node.Entry.{Entry}
 use Rattle.table.specs.Pairs.{pair, without}
 use Rattle.space.specs.Extents.{Starts, free_of, Spaced, in_list}

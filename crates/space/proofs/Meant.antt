@@ -1,10 +1,10 @@
 -- What granting and giving back mean, once their tests are known.
 use Rattle.std.proofs.Common.{◌≡◌, ℕ, ◌+◌, ◌<◌, ◌≤◌, true, false, ◌&&◌, eqb, ltb, leb, ◌⊎◌, Ok, Err, inl, inr}
 use Rattle.std.proofs.lemmas.Bool.{le-ltb, le-leb, lt-leb, and_cases, and_parts, eqb-true, eqb-false, leb-true, leb-false}
-use Rattle.log.specs.Limits.{most_extents}
-use Rattle.log.specs.Sectors.{Sectors, used, meets, runs}
-use Rattle.log.specs.Replay.{grant, give_back, granting, returning}
-use Rattle.log.specs.declared.fault.Fault.TheVariants.{Taken, Again, Crowded}
+use Rattle.slab_log.specs.Limits.{most_extents}
+use Rattle.slab_log.specs.Sectors.{Sectors, used, meets, runs}
+use Rattle.slab_log.specs.Replay.{grant, give_back, granting, returning}
+use Rattle.slab_log.specs.declared.fault.Fault.TheVariants.{Taken, Again, Crowded}
 
 module _ (size : ℕ) (free : Sectors) (start len : ℕ) where
   module _ (fits : start + len ≤ size) where

@@ -3,8 +3,8 @@ use Rattle.std.proofs.Common.{◌≡◌, ℕ, ◌+◌, ◌<◌, ◌≤◌, Bool,
 use mathlib.Core.Path.{fun_ext}
 use Rattle.std.proofs.lemmas.Bool.{both_ways, or_cases, not_from_false, and_from, lt-ltb}
 use Rattle.std.proofs.lemmas.Bool.Decides.{nat_tests}
-use Rattle.log.specs.Sectors.{whole}
-use Rattle.log.specs.Replay.{grant, give_back}
+use Rattle.slab_log.specs.Sectors.{whole}
+use Rattle.slab_log.specs.Replay.{grant, give_back}
 use Rattle.table.specs.Order.{shorter}
 use Rattle.table.specs.Pairs.{Ordered, pair, put, without, alike, has, Inserts, Removes}
 use Rattle.space.specs.Extents.{Starts, Lengths, free_of, total, Spaced, in_list, span, Twins}

@@ -1,9 +1,9 @@
 -- Replay, word by word: what the words from a place on do.
 use Rattle.std.proofs.Common.{◌≡◌, ℕ, zero, suc, ◌+◌, ◌<◌, ◌≤◌, List, [], ◌∷◌, length, get_or, drop, Ok, Err, sym, refl, ap, ◌∙◌, add-one, arith, drop-cons}
-use Rattle.log.specs.Sectors.{Sectors}
-use Rattle.log.specs.Words.{read}
-use Rattle.log.specs.Replay.{take_word, replay_from, replay}
-use Rattle.log.specs.declared.fault.Fault.{Fault}
+use Rattle.slab_log.specs.Sectors.{Sectors}
+use Rattle.slab_log.specs.Words.{read}
+use Rattle.slab_log.specs.Replay.{take_word, replay_from, replay}
+use Rattle.slab_log.specs.declared.fault.Fault.{Fault}
 use Rattle.space.specs.Free.{sectors_of, free_in}
 use Rattle.space.specs.declared.space.Space.{Space}
 

@@ -2,9 +2,9 @@
 use Rattle.std.proofs.Common.{◌≡◌, ℕ, ◌+◌, ◌-◌, ◌<◌, ◌≤◌, true, false, ◌&&◌, eqb, ltb, leb, ◌⊎◌, [], ◌∷◌, sym, refl, ap, ◌∙◌, inl, inr, arith}
 use Rattle.std.proofs.lemmas.Bool.{and_parts, and_from, or_cases, or_left, or_right, eqb-true, eq-eqb, ltb-true, leb-true, cases_order, both_ways}
 use Rattle.std.proofs.lemmas.Bool.Decides.{nat_tests}
-use Rattle.log.specs.Sectors.{Run, covers}
-use Rattle.log.proofs.Steps.{from_T, to_T, to_not_T}
-use Rattle.log.proofs.Unique.{same_length}
+use Rattle.slab_log.specs.Sectors.{Run, covers}
+use Rattle.slab_log.proofs.Steps.{from_T, to_T, to_not_T}
+use Rattle.slab_log.proofs.Unique.{same_length}
 use Rattle.table.specs.declared.node.Entry.{Entry}
 use Rattle.space.specs.Extents.{Starts, free_of, total, Spaced, in_list}
 

@@ -3,8 +3,8 @@ use mathlib.Core.Logic.{∥∥₁_elim}
 use Rattle.std.proofs.Common.{◌≡◌, ℕ, ◌+◌, ◌≤◌, true, ltb, [], ◌∷◌, length, Some, Option, sym, refl, ap, ◌∙◌, arith}
 use native.Mathlib.Bridge.{le_prop}
 use Rattle.table.specs.Order.{shorter}
-use Rattle.log.specs.Limits.{most_extents}
-use Rattle.log.specs.Sectors.{Sectors, runs}
+use Rattle.slab_log.specs.Limits.{most_extents}
+use Rattle.slab_log.specs.Sectors.{Sectors, runs}
 use Rattle.table.specs.declared.node.Entry.{Entry}
 use Rattle.table.specs.Pairs.{Ordered, under, last}
 use Rattle.table.specs.StartTable.{pairs as starts}

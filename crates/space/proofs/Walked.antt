@@ -1,13 +1,13 @@
 -- The runs of used sectors, walked one after the other: the words of those before a place, and of those from it on.
 use Rattle.std.proofs.Common.{◌≡◌, ℕ, ◌+◌, ◌-◌, ◌≤◌, List, [], ◌∷◌, ◌++◌, length, Some, None, sym, refl, ap, ◌∙◌, subst, inl, inr, append_assoc, append-nil, arith, length-append}
 use Rattle.std.proofs.lemmas.Bool.{cases_order}
-use Rattle.log.specs.Sectors.{Sectors, used}
-use Rattle.log.specs.Words.{words_of, entries}
-use Rattle.log.specs.Condensed.{RunsFrom, none, next, all_words, Condensed}
-use Rattle.log.specs.declared.entry.Effect.TheVariants.{Allocates}
-use Rattle.log.specs.declared.extent.Extent.{Extent}
-use Rattle.log.proofs.Unique.{head, same_length}
-use Rattle.log.proofs.Written.{words_length}
+use Rattle.slab_log.specs.Sectors.{Sectors, used}
+use Rattle.slab_log.specs.Words.{words_of, entries}
+use Rattle.slab_log.specs.Condensed.{RunsFrom, none, next, all_words, Condensed}
+use Rattle.slab_log.specs.declared.entry.Effect.TheVariants.{Allocates}
+use Rattle.slab_log.specs.declared.extent.Extent.{Extent}
+use Rattle.slab_log.proofs.Unique.{head, same_length}
+use Rattle.slab_log.proofs.Written.{words_length}
 use Rattle.space.specs.Free.{Follows}
 use Rattle.space.proofs.InUse.{used_ends}
 

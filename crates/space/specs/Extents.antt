@@ -1,6 +1,6 @@
 -- The free sectors of a slab as a list of extents by rising start, each a pair of a start and a length.
 use Rattle.std.specs.Prelude.{◌≡◌, ℕ, ◌+◌, ◌≤◌, Bool, false, ◌&&◌, ◌||◌, List, [], ◌∷◌, ◌==◌}
-use Rattle.log.specs.Sectors.{Sectors, covers}
+use Rattle.slab_log.specs.Sectors.{Sectors, covers}
 use Rattle.table.specs.declared.node.Entry.{Entry}
 use Rattle.table.specs.declared.key.LengthKey.{LengthKey}
 use Rattle.table.specs.Order.{shorter}

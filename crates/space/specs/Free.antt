@@ -1,15 +1,15 @@
 -- What a space means: its size and its free sectors; and what its calls answer and leave.
 use Rattle.std.specs.Prelude.{◌≡◌, ℕ, ◌+◌, ◌-◌, ◌<◌, ◌≤◌, true, false, ◌⊎◌, List, ◌++◌, length, Some, None, Ok, Err, Option, Result}
-use Rattle.log.specs.Sectors.{Sectors, Run, meets, runs}
-use Rattle.log.specs.Replay.{give_back, replay}
-use Rattle.log.specs.Condensed.{Condensed}
-use Rattle.log.specs.Fit.{BestFit}
-use Rattle.log.specs.declared.refusal.Refusal.{Refusal}
-use Rattle.log.specs.declared.refusal.Refusal.TheVariants.{LogFull}
-use Rattle.log.specs.declared.fault.Fault.{Fault}
-use Rattle.log.specs.declared.fault.Stop.{Stop}
-use Rattle.log.specs.declared.extent.Extent.{Extent}
-use Rattle.log.specs.declared.size.Size.{Size}
+use Rattle.slab_log.specs.Sectors.{Sectors, Run, meets, runs}
+use Rattle.slab_log.specs.Replay.{give_back, replay}
+use Rattle.slab_log.specs.Condensed.{Condensed}
+use Rattle.slab_log.specs.Fit.{BestFit}
+use Rattle.slab_log.specs.declared.refusal.Refusal.{Refusal}
+use Rattle.slab_log.specs.declared.refusal.Refusal.TheVariants.{LogFull}
+use Rattle.slab_log.specs.declared.fault.Fault.{Fault}
+use Rattle.slab_log.specs.declared.fault.Stop.{Stop}
+use Rattle.slab_log.specs.declared.extent.Extent.{Extent}
+use Rattle.slab_log.specs.declared.size.Size.{Size}
 use Rattle.table.specs.StartTable.{pairs}
 use Rattle.space.specs.Extents.{free_of}
 use Rattle.space.specs.declared.space.Space.{Space}

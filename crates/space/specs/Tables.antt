@@ -1,6 +1,6 @@
 -- What the changes of a space's tables ask and leave.
 use Rattle.std.specs.Prelude.{◌≡◌, ℕ, ◌+◌, ◌-◌, ◌<◌, ◌≤◌, true, false, Some, None, Option}
-use Rattle.log.specs.Sectors.{Sectors, used, meets, begins}
+use Rattle.slab_log.specs.Sectors.{Sectors, used, meets, begins}
 use Rattle.table.specs.declared.node.Entry.{Entry}
 use Rattle.table.specs.StartTable.{pairs}
 use Rattle.space.specs.Extents.{Starts, free_of, in_list}

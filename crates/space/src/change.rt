@@ -1,13 +1,13 @@
 // Granting and giving back extents.
 ghost use Rattle.std.specs.Prelude.{◌≡◌, ◌+◌, ◌-◌, ◌^◌, ◌<◌, ◌≤◌, length, Some};
-ghost use Rattle.log.specs.Sectors.{meets};
-ghost use Rattle.log.specs.Replay.{grant, granting, returning};
+ghost use Rattle.slab_log.specs.Sectors.{meets};
+ghost use Rattle.slab_log.specs.Replay.{grant, granting, returning};
 ghost use Rattle.table.specs.StartTable.{pairs as starts};
 ghost use Rattle.space.specs.Free.{sectors_of, free_in, Changes};
 ghost use Rattle.space.specs.Tables.{Moved, Holds, LeftEdge, RightEdge};
 
 use crate::space::Space;
-use log::{Extent, Fault};
+use slab_log::{Extent, Fault};
 use table::Entry;
 
 // The most free extents of a slab.

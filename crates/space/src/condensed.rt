@@ -1,10 +1,10 @@
 // The condensed log of a space.
 ghost use Rattle.std.specs.Prelude.{◌≡◌, ℕ, List, length};
-ghost use Rattle.log.specs.Condensed.{Condensed};
+ghost use Rattle.slab_log.specs.Condensed.{Condensed};
 ghost use Rattle.space.specs.Free.{sectors_of, free_in, WritesCondensed};
 
 use crate::space::Space;
-use log::{Effect, Refusal};
+use slab_log::{Effect, Refusal};
 use store::{LogStore, add_extent};
 
 impl Space {

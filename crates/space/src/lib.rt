@@ -1,4 +1,6 @@
 // The free extents of a slab.
+#![tactic(auto)]
+
 mod change;
 mod condensed;
 mod questions;

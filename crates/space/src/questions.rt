@@ -1,10 +1,10 @@
 // What can be asked of a space.
 ghost use Rattle.std.specs.Prelude.{◌≡◌, ◌+◌};
-ghost use Rattle.log.specs.Sectors.{meets, count, runs};
+ghost use Rattle.slab_log.specs.Sectors.{meets, count, runs};
 ghost use Rattle.space.specs.Free.{sectors_of, free_in, Fits, Follows, Longest, Standing};
 
 use crate::space::Space;
-use log::{Extent, Size};
+use slab_log::{Extent, Size};
 use table::LengthKey;
 
 impl Space {

@@ -1,12 +1,12 @@
 // A space from a log.
 ghost use Rattle.std.specs.Prelude.{◌≡◌};
-ghost use Rattle.log.specs.Sectors.{whole};
-ghost use Rattle.log.specs.Words.{read};
-ghost use Rattle.log.specs.Replay.{apply, take_word};
+ghost use Rattle.slab_log.specs.Sectors.{whole};
+ghost use Rattle.slab_log.specs.Words.{read};
+ghost use Rattle.slab_log.specs.Replay.{apply, take_word};
 ghost use Rattle.space.specs.Free.{sectors_of, free_in, Changes, Replays};
 
 use crate::space::Space;
-use log::{Entry, Fault, Size, Stop, decode};
+use slab_log::{Entry, Fault, Size, Stop, decode};
 use store::LogStore;
 use table::{LengthKey, LengthTable, StartTable};
 

@@ -4,7 +4,7 @@ ghost use Rattle.table.specs.StartTable.{pairs as starts};
 ghost use Rattle.table.specs.LengthTable.{pairs as lengths};
 ghost use Rattle.space.specs.Extents.{Spaced, Twins, total};
 
-use log::Size;
+use slab_log::Size;
 use table::{LengthTable, StartTable};
 
 // Both tables hold the same extents: the longest runs of free sectors.

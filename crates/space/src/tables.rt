@@ -1,6 +1,6 @@
 // One free extent put into both tables of a space, or taken out of both.
 ghost use Rattle.std.specs.Prelude.{◌≡◌, ◌+◌, ◌<◌, ◌≤◌, min, true, length};
-ghost use Rattle.log.specs.Replay.{grant, give_back};
+ghost use Rattle.slab_log.specs.Replay.{grant, give_back};
 ghost use Rattle.table.specs.StartTable.{pairs as starts};
 ghost use Rattle.space.specs.Extents.{in_list};
 ghost use Rattle.space.specs.Free.{free_in, sectors_of};

@@ -1,11 +1,11 @@
 // The runs of sectors in use.
 ghost use Rattle.std.specs.Prelude.{◌≡◌, ◌-◌, ◌<◌, ◌≤◌, false};
-ghost use Rattle.log.specs.Sectors.{used};
+ghost use Rattle.slab_log.specs.Sectors.{used};
 ghost use Rattle.space.specs.Free.{sectors_of, free_in, Follows};
 ghost use Rattle.space.specs.Tables.{UsedFrom, UsedTo};
 
 use crate::space::Space;
-use log::Extent;
+use slab_log::Extent;
 
 impl Space {
     // The lowest longest run of used sectors that begins at or after a sector.

@@ -1,6 +1,6 @@
 // A comb of 1,024 free extents, the most that a slab may have: what still can be granted and given back, and what not.
 use crate::helpers::figures;
-use log::{Extent, Fault, Size};
+use slab_log::{Extent, Fault, Size};
 use space::Space;
 use std::test::Fail;
 

@@ -1,6 +1,6 @@
 // The condensed log: its length, its words, a store with too few places for it, and its replay.
 use crate::helpers::figures;
-use log::{Extent, Refusal, Size};
+use slab_log::{Extent, Refusal, Size};
 use space::Space;
 use std::test::Fail;
 use store::{ImageStore, LogStore, OwnStore, format as format_area};

@@ -1,6 +1,6 @@
 // Debug words, whatever their action, change nothing, and count as places.
 use crate::helpers::{figures, stop_at, store_of};
-use log::{DebugWord, Entry, Fault, Size, Stop, decode};
+use slab_log::{DebugWord, Entry, Fault, Size, Stop, decode};
 use space::Space;
 use std::test::Fail;
 

@@ -1,6 +1,6 @@
 // Each fault of a log stops its replay at the place of the word that has it.
 use crate::helpers::{stop_at, stop_of};
-use log::{Effect, Extent, Fault, Size, Stop};
+use slab_log::{Effect, Extent, Fault, Size, Stop};
 use std::test::Fail;
 use store::{OwnStore, add_extent};
 

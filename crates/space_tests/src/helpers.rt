@@ -1,5 +1,5 @@
 // What several tests share: the figures of a space, stores of given words, and where a replay stops.
-use log::{Refusal, Size, Stop};
+use slab_log::{Refusal, Size, Stop};
 use space::Space;
 use std::process::Abort;
 use std::test::Fail;

@@ -1,5 +1,5 @@
 // A log of 10,000 words, of a random history, replays to what a plain map of the sectors says, and so does its condensed log.
-use log::{Effect, Extent, Size};
+use slab_log::{Effect, Extent, Size};
 use space::Space;
 use std::process::Abort;
 use std::test::Fail;

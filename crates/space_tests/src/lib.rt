@@ -1,4 +1,6 @@
 // Tests of the free extents of a slab: replay, granting and giving back, the questions, the condensed log.
+#![tactic(auto)]
+
 #[cfg(test)]
 mod comb;
 #[cfg(test)]

@@ -1,6 +1,6 @@
 // The return of 32,769 sectors, which are two entries of a log, near the most free extents.
 use crate::helpers::{figures, stop_of};
-use log::{Effect, Extent, Fault, Size, Stop};
+use slab_log::{Effect, Extent, Fault, Size, Stop};
 use space::Space;
 use std::test::Fail;
 use store::{LogStore, OwnStore, add_extent};

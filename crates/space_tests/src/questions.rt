@@ -1,6 +1,6 @@
 // Best fit, the next free and used extents, the longest, and what a return would leave, on small slabs.
 use crate::helpers::figures;
-use log::{Extent, Size};
+use slab_log::{Extent, Size};
 use space::Space;
 use std::test::Fail;
 

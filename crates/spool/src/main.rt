@@ -1,4 +1,6 @@
 // spool: runs a script of calls from standard input on one slab, over a store of its own.
+#![tactic(auto)]
+
 mod input;
 mod request;
 

@@ -1,7 +1,7 @@
 -- What the answers of a store's calls say, for every store.
 use Rattle.std.specs.Prelude.{◌≡◌, ℕ, ◌+◌, ◌-◌, ◌<◌, ◌≤◌, List, [], ◌∷◌, ◌++◌, length, Ok, Err, Result, slice_index}
-use Rattle.log.specs.declared.refusal.Refusal.{Refusal}
-use Rattle.log.specs.declared.refusal.Refusal.TheVariants.{NoWord, StoreFull, LogFull}
+use Rattle.slab_log.specs.declared.refusal.Refusal.{Refusal}
+use Rattle.slab_log.specs.declared.refusal.Refusal.TheVariants.{NoWord, StoreFull, LogFull}
 
 -- the answer to a request for the word i of the list ws: that word, or the refusal NoWord where the list has none
 abbrev pub Reads : List ℕ → ℕ → Result ℕ Refusal → Type 0

@@ -1,7 +1,7 @@
 -- What the calls over an area answer, and which of its bytes they change.
 use Rattle.std.specs.Prelude.{◌≡◌, ℕ, ◌+◌, ◌*◌, ◌<◌, ◌≤◌, List, length, Ok, Err, Result, slice_index}
-use Rattle.log.specs.declared.refusal.Refusal.{Refusal}
-use Rattle.log.specs.declared.refusal.Refusal.TheVariants.{BadHeader}
+use Rattle.slab_log.specs.declared.refusal.Refusal.{Refusal}
+use Rattle.slab_log.specs.declared.refusal.Refusal.TheVariants.{BadHeader}
 use Rattle.store.specs.declared.header_rule.Header.{Header}
 use Rattle.store.specs.Image.{MeetsRule, header_bytes, places_for, count_field, capacity_field, first_field, end_field, words_of, capacity_of}
 

@@ -1,15 +1,15 @@
 // The entries of an extent, added to a store.
 ghost use Rattle.std.specs.Prelude.{◌≡◌};
-ghost use Rattle.log.specs.Words.{words_of};
+ghost use Rattle.slab_log.specs.Words.{words_of};
 ghost use Rattle.store.specs.Answers.{AddsAll};
 
 use crate::log_store::LogStore;
-use log::{Effect, Extent, Refusal};
+use slab_log::{Effect, Extent, Refusal};
 
 // Adds all words of the extent's entries, or, where the store has too few places for them, none.
 pub fn add_extent<S: LogStore>(store: &mut S, effect: Effect, extent: Extent) -> Result<(), Refusal>
-    ensures kept { capacity store.new ≡ capacity store.old }
-    ensures adds { AddsAll (capacity store.old) (words store.old) (words store.new) (words_of effect extent.start extent.length) result }
+    ensures kept { S.capacity store.new ≡ S.capacity store.old }
+    ensures adds { AddsAll (S.capacity store.old) (S.words store.old) (S.words store.new) (words_of effect extent.start extent.length) result }
 {
     let needed = extent.entries();
     let places = store.capacity() - store.count();

@@ -4,7 +4,7 @@ ghost use Rattle.store.specs.Image.{places_for};
 ghost use Rattle.store.specs.Changes.{Formats};
 
 use crate::header_rule::{HEADER_BYTES, Header, WORD_BYTES, write_header};
-use log::Refusal;
+use slab_log::Refusal;
 
 // The most places that an area is given.
 const MOST_PLACES: usize = 1048576;

@@ -5,7 +5,7 @@ ghost use Rattle.store.specs.Image.{fits_test, header_bytes};
 ghost use Rattle.store.specs.Changes.{Checks, IsHeader};
 
 use crate::bytes::{get32, put32};
-use log::Refusal;
+use slab_log::Refusal;
 
 // How many bytes the header takes.
 pub const HEADER_BYTES: usize = 16;

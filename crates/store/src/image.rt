@@ -6,7 +6,7 @@ ghost use Rattle.store.specs.Changes.{AddChanges, EmptyChanges};
 
 use crate::layout::{add_to, capacity_of, count_of, empty_in, word_of};
 use crate::log_store::LogStore;
-use log::Refusal;
+use slab_log::Refusal;
 
 // Over an area against the header rule the store has no place, and leaves the area as it is.
 // The caller that lent the area has it back once the store is let go, and then knows its bytes: the clause `lender` of

@@ -7,7 +7,7 @@ ghost use Rattle.store.specs.Changes.{AddChanges, EmptyChanges, NotYetAdded};
 
 use crate::bytes::{get64, put32, put64};
 use crate::header_rule::{COUNT_AT, WORD_BYTES, check};
-use log::Refusal;
+use slab_log::Refusal;
 
 pub(crate) fn count_of(area: &[u8]) -> usize
     ensures { result ≡ length (words_of area.now) }

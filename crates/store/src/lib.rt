@@ -1,4 +1,6 @@
 // Stores for the words of a log: the trait, a store with places of its own, and a store over an area of bytes.
+#![tactic(auto)]
+
 mod bytes;
 mod extents;
 mod formatting;

@@ -2,7 +2,7 @@
 ghost use Rattle.std.specs.Prelude.{◌≡◌, ℕ, ◌^◌, ◌<◌, ◌≤◌, List, [], length};
 ghost use Rattle.store.specs.Answers.{Reads, Adds};
 
-use log::Refusal;
+use slab_log::Refusal;
 
 pub trait LogStore {
     // How many words the store can hold.

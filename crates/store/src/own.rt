@@ -4,7 +4,7 @@ ghost use Rattle.std.proofs.Common.{lit<};
 ghost use Rattle.store.specs.Own.{own_places, own_words, own_bounded};
 
 use crate::log_store::LogStore;
-use log::Refusal;
+use slab_log::Refusal;
 
 // How many words an own store holds at most.
 pub const PLACES: usize = 4096;

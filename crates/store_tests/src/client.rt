@@ -3,7 +3,7 @@ ghost use Rattle.store.specs.Answers.{Adds};
 ghost use Rattle.store.specs.Image.{words_of, capacity_of};
 ghost use Rattle.store.specs.Changes.{AddChanges};
 
-use log::Refusal;
+use slab_log::Refusal;
 use store::{ImageStore, LogStore};
 
 // Adds a word to the image in the area.

@@ -1,4 +1,6 @@
 // Tests of the stores, and what a caller knows of an area that it lent to an image store.
+#![tactic(auto)]
+
 mod client;
 #[cfg(test)]
 mod header_tests;

@@ -1,5 +1,5 @@
 // The number of an answer's refusal, for the tests.
-use log::Refusal;
+use slab_log::Refusal;
 
 // 0 where the call was not refused.
 pub(crate) fn refusal_number<T: Drop>(answer: Result<T, Refusal>) -> u8 {

@@ -1,4 +1,6 @@
 // One balanced tree for any key, in a slice of records that are linked by index, and the tables over it.
+#![tactic(auto)]
+
 mod chain;
 pub mod key;
 pub mod least;

@@ -1,4 +1,6 @@
 // Tests of the tables, against an array that has the length at each start.
+#![tactic(auto)]
+
 #[cfg(test)]
 mod filling;
 #[cfg(test)]

@@ -4,4 +4,4 @@ use Rattle.store.proofs.Digits.{le_four}
 use Rattle.store.proofs.bytes.get32.Goals as goal
 
 pub returns : goal.returns
-returns c = c.from-le-bytes.ensures ∙ sym (le_four c.args.area.now c.args.at)
+returns c = c.from_le_bytes.ensures ∙ sym (le_four c.args.area.now c.args.at)

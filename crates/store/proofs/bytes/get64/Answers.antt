@@ -4,4 +4,4 @@ use Rattle.store.proofs.Digits.{le_eight}
 use Rattle.store.proofs.bytes.get64.Goals as goal
 
 pub returns : goal.returns
-returns c = c.from-le-bytes.ensures ∙ sym (le_eight c.args.area.now c.args.at)
+returns c = c.from_le_bytes.ensures ∙ sym (le_eight c.args.area.now c.args.at)

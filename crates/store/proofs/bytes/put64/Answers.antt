@@ -7,6 +7,6 @@ pub returns : goal.returns
 returns c =
     let small : c.args.v < 2 ^ 64 = omega (arith, c.ranges.v.fits) in
     record {
-      value = le_written 7 c.args.v c.args.at _ _ _ c.to-le-bytes.ensures small c.put-bytes.ensures;
-      others = frame_written 7 c.args.v c.args.at _ _ _ c.to-le-bytes.ensures c.put-bytes.ensures;
+      value = le_written 7 c.args.v c.args.at _ _ _ c.to_le_bytes.ensures small c.put_bytes.ensures;
+      others = frame_written 7 c.args.v c.args.at _ _ _ c.to_le_bytes.ensures c.put_bytes.ensures;
     }

@@ -7,4 +7,4 @@ pub returns : goal.returns
 returns c =
     let at = c.args.at in
     let size : (at + length c.args.bytes.now) - at ≡ length c.args.bytes.now = omega arith in
-    overwritten at ((at + length c.args.bytes.now) - at) c.args.area.now c.args.bytes.now c.copy-from-slice.new.self size c.copy-from-slice.ensures.after c.requires
+    overwritten at ((at + length c.args.bytes.now) - at) c.args.area.now c.args.bytes.now c.copy_from_slice.new.self size c.copy_from_slice.ensures.after c.requires

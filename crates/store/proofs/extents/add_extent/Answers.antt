@@ -2,8 +2,8 @@
 use Rattle.std.proofs.Common.{◌≡◌, ℕ, ◌<◌, ◌++◌, length, sym, refl, ap, ◌∙◌, append-nil, arith}
 use Rattle.std.proofs.lemmas.List.{take_all}
 use Rattle.std.proofs.lemmas.Option.{slice_get-get_or}
-use Rattle.log.specs.Words.{words_of}
-use Rattle.log.proofs.Written.{words_length}
+use Rattle.slab_log.specs.Words.{words_of}
+use Rattle.slab_log.proofs.Written.{words_length}
 use Rattle.store.proofs.Appended.{next_fits, one_appended}
 use Rattle.store.proofs.extents.add_extent.Goals as goal
 
@@ -35,7 +35,7 @@ unreachable-requires g c =
     let long = words_length c.args.effect e.start e.length e.some in
     let below : c.loop-n.n < length (words_of c.args.effect e.start e.length) = omega (arith, c.entries-needed.ensures, c.loop-n-test.true) in
     let there = slice_get-get_or _ _ 0 below in
-    let none = sym c.nth-word.ensures ∙ c.in-default.is in
+    let none = sym c.nth_word.ensures ∙ c.in-default.is in
     let z : ◌≡◌ {A = ℕ} 0 1 = cc in
     omega arith
 
@@ -53,7 +53,7 @@ loop-n-preserved g c =
     let long = words_length c.args.effect e.start e.length e.some in
     let below : c.loop-n.n < length (words_of c.args.effect e.start e.length) = omega (arith, c.entries-needed.ensures, c.loop-n-test.true) in
     let added = c.in-Ok.ensures in
-    one_appended _ _ _ _ _ _ c.loop-n.invariant _ _ c.in-Some.word below (sym c.nth-word.ensures ∙ c.in-Some.is) added.kept added.adds.1
+    one_appended _ _ _ _ _ _ c.loop-n.invariant _ _ c.in-Some.word below (sym c.nth_word.ensures ∙ c.in-Some.is) added.kept added.adds.1
 
 pub returns : goal.returns
 returns g c =

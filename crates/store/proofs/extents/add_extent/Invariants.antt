@@ -1,5 +1,5 @@
 -- The first words of the extent have been added, and there is a place for each of the others.
-use Rattle.log.specs.Words.{words_of}
+use Rattle.slab_log.specs.Words.{words_of}
 use Rattle.store.proofs.Appended.{Appended}
 use Rattle.store.proofs.extents.add_extent.Given as goal
 

@@ -19,7 +19,7 @@ returns c =
     let area = c.args.area.now in
     let checked = c.in-Ok.ensures in
     let room : count_field area < capacity_field area = omega (arith, checked.1.count, checked.1.capacity, checked.0.count_within_capacity) in
-    let a : Added area c.write-count.new.area c.args.w =
-    added area c.write-word.new.area c.write-count.new.area c.args.w (c.in-Ok.header.first + 8 * c.in-Ok.header.count) checked.0 room (omega (arith, checked.1.first, checked.1.count))
-    c.write-word.ensures.word c.write-word.ensures.others (c.write-count.ensures.count ∙ ap (λ k. k + 1) checked.1.count) c.write-count.ensures.others (search rules) (search rules) in
+    let a : Added area c.write_count.new.area c.args.w =
+    added area c.write_word.new.area c.write_count.new.area c.args.w (c.in-Ok.header.first + 8 * c.in-Ok.header.count) checked.0 room (omega (arith, checked.1.first, checked.1.count))
+    c.write_word.ensures.word c.write_word.ensures.others (c.write_count.ensures.count ∙ ap (λ k. k + 1) checked.1.count) c.write_count.ensures.others (search rules) (search rules) in
     record { kept = a.kept; adds = (a.room, a.words); changes = a.changes }

@@ -1,6 +1,6 @@
 -- Each run of used sectors has as many words as entries.
 use Rattle.std.proofs.Common.{◌+◌, [], length, sym, refl, ap, ◌∙◌, subst, arith}
-use Rattle.log.specs.Sectors.{used}
+use Rattle.slab_log.specs.Sectors.{used}
 use Rattle.space.specs.Free.{sectors_of, free_in}
 use Rattle.space.proofs.InUse.{used_ends}
 use Rattle.space.proofs.Walked.{Numbered, walk_starts, walk_ends, number_on}

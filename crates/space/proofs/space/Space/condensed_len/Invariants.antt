@@ -1,7 +1,7 @@
 -- The words counted so far are those of the runs before the place.
 use Rattle.std.proofs.Common.{ℕ, ◌-◌, ◌≤◌, List}
-use Rattle.log.specs.Sectors.{used}
-use Rattle.log.specs.Condensed.{Condensed}
+use Rattle.slab_log.specs.Sectors.{used}
+use Rattle.slab_log.specs.Condensed.{Condensed}
 use Rattle.space.specs.Free.{sectors_of, free_in}
 use Rattle.space.proofs.Walked.{Numbered}
 use Rattle.space.proofs.space.Space.condensed_len.Given as goal

@@ -1,7 +1,7 @@
 -- The free extent is taken out, and its two ends are put in again.
 use Rattle.std.proofs.Common.{◌+◌, ◌-◌, sym, ap, ◌∙◌, subst, inl, inr, arith}
 use Rattle.std.proofs.lemmas.Bool.{cases_lt}
-use Rattle.log.specs.Replay.{give_back}
+use Rattle.slab_log.specs.Replay.{give_back}
 use Rattle.space.specs.Tables.{Clear}
 use Rattle.space.proofs.Spaces.{spaced_in, lies_in, few_in}
 use Rattle.space.proofs.Cutting.{front_clear, back_clear, cut_is}

@@ -1,9 +1,9 @@
 -- The tests are made in order, and what is left is the run granted out of its free extent.
 use Rattle.std.proofs.Common.{◌<◌, Ok, sym, refl, ap, ◌∙◌, arith}
 use Rattle.std.proofs.lemmas.Bool.{and_parts, ltb-true, leb-true}
-use Rattle.log.specs.Limits.{most_extents}
-use Rattle.log.specs.Sectors.{runs}
-use Rattle.log.specs.Replay.{grant}
+use Rattle.slab_log.specs.Limits.{most_extents}
+use Rattle.slab_log.specs.Sectors.{runs}
+use Rattle.slab_log.specs.Replay.{grant}
 use Rattle.space.specs.Free.{sectors_of, free_in}
 use Rattle.space.proofs.Spaces.{spaced_in, lies_in, runs_moved}
 use Rattle.space.proofs.Cutting.{all_free, both_ends}

@@ -1,9 +1,9 @@
 -- The run is longest, and none begins between the sector and it.
 use Rattle.std.proofs.Common.{◌-◌, inl, inr, arith}
 use Rattle.std.proofs.lemmas.Bool.{cases_lt, both_ways}
-use Rattle.log.specs.Sectors.{used}
+use Rattle.slab_log.specs.Sectors.{used}
 use Rattle.space.specs.Free.{sectors_of, free_in}
-use Rattle.log.proofs.Counted.{run_begins}
+use Rattle.slab_log.proofs.Counted.{run_begins}
 use Rattle.space.proofs.InUse.{run_from, not_free_here, run_inside}
 use Rattle.space.proofs.Spaces.{spaced_in}
 use Rattle.space.proofs.space.Space.next_used.Goals as goal

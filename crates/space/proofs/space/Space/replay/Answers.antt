@@ -1,7 +1,7 @@
 -- Each word does what replay says of it.
 use Rattle.std.proofs.Common.{◌+◌, ltb, drop, sym, refl, ap, ◌∙◌, arith}
-use Rattle.log.specs.Words.{read}
-use Rattle.log.specs.Replay.{take_word, replay_from, replay}
+use Rattle.slab_log.specs.Words.{read}
+use Rattle.slab_log.specs.Replay.{take_word, replay_from, replay}
 use Rattle.space.specs.Free.{sectors_of, free_in}
 use Rattle.space.proofs.Replayed.{word_done, word_fails, all_done}
 use Rattle.space.proofs.space.Space.replay.Goals as goal

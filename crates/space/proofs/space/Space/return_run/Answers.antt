@@ -1,9 +1,9 @@
 -- The tests are made in order; then the free extents beside the run are taken out, and the grown one is put in.
 use Rattle.std.proofs.Common.{◌+◌, ◌-◌, ◌<◌, ◌≤◌, Ok, sym, refl, ap, ◌∙◌, subst, inl, inr, arith}
 use Rattle.std.proofs.lemmas.Bool.{cases_lt}
-use Rattle.log.specs.Limits.{most_extents}
-use Rattle.log.specs.Sectors.{Run, runs}
-use Rattle.log.specs.Replay.{grant, give_back}
+use Rattle.slab_log.specs.Limits.{most_extents}
+use Rattle.slab_log.specs.Sectors.{Run, runs}
+use Rattle.slab_log.specs.Replay.{grant, give_back}
 use Rattle.space.specs.Free.{sectors_of, free_in}
 use Rattle.space.specs.Tables.{Clear, Moved}
 use Rattle.space.proofs.Spaced.{listed_run}

@@ -1,6 +1,6 @@
 -- A run of used sectors begins behind the free extent that reaches the sector, or further on.
 use Rattle.std.proofs.Common.{sym, ◌∙◌, subst, arith}
-use Rattle.log.specs.Sectors.{used}
+use Rattle.slab_log.specs.Sectors.{used}
 use Rattle.space.specs.Free.{sectors_of, free_in}
 use Rattle.space.specs.Tables.{UsedFrom}
 use Rattle.space.proofs.Cutting.{past_previous, before_all}

@@ -1,7 +1,7 @@
 -- The places are counted first, so that each run's words find theirs.
 use Rattle.std.proofs.Common.{[], ◌++◌, sym, refl, ap, ◌∙◌, append-nil, arith}
-use Rattle.log.specs.Sectors.{used}
-use Rattle.log.proofs.Unique.{condensed_exists}
+use Rattle.slab_log.specs.Sectors.{used}
+use Rattle.slab_log.proofs.Unique.{condensed_exists}
 use Rattle.space.specs.Free.{sectors_of, free_in}
 use Rattle.space.proofs.InUse.{used_ends}
 use Rattle.space.proofs.Walked.{walk_starts, walk_ends, write_fits, write_on}

@@ -1,0 +1,62 @@
+-- The tests are made in order, the return is logged, and then its sectors are free.
+use Rattle.std.proofs.Common.{◌≡◌, ℕ, sym, refl, ap, ◌∙◌, ⊎_elim, arith}
+use Rattle.std.proofs.lemmas.Result.{err_from_is_err_and}
+use Rattle.slab_log.specs.declared.entry.Effect.TheVariants.{Frees as Freeing}
+use Rattle.slab_log.proofs.Written.{words_length}
+use Rattle.space.specs.Free.{sectors_of, free_in}
+use Rattle.space.proofs.Meant.{returned}
+use Rattle.disk_slab.specs.Answers.Frees.{beyond, already, too_many, freed}
+use Rattle.disk_slab.proofs.Views.{same_running}
+use Rattle.disk_slab.proofs.Written.{return_lacks}
+use Rattle.disk_slab.proofs.logged.give_back.Goals as goal
+
+pub returns-then-extent-size : goal.returns-then-extent-size
+returns-then-extent-size g c =
+    let size = ap (λ z. z.sectors) c.size.ensures in
+    record { answer = beyond refl (omega arith); leaves = refl }
+
+pub returns-in-default : goal.returns-in-default
+returns-in-default g c =
+    let size = ap (λ z. z.sectors) c.size.ensures in
+    record {
+      answer = ⊎_elim (λ past. absurd (omega arith)) (λ met. already refl (omega arith) met) c.in-default.ensures;
+      leaves = refl;
+    }
+
+pub returns-then-standing-ge-MOST-EXTENTS : goal.returns-then-standing-ge-MOST-EXTENTS
+returns-then-standing-ge-MOST-EXTENTS g c =
+    let after = c.in-Some.ensures in
+    record { answer = too_many refl (after.0, after.1) (omega arith); leaves = refl }
+
+pub returns-in-err-add-extent : goal.returns-in-err-add-extent
+returns-in-err-add-extent g c =
+    let p = err_from_is_err_and c.from-residual.result c.from-residual.ensures.1 in
+    let full = c.in-err-add-extent.ensures in
+    let after = c.in-Some.ensures in
+    rw (p.1, p.2)
+    (record {
+      answer = return_lacks _ refl c.args.extent _ (after.0, after.1) (omega arith) full.adds.0 full.adds.1;
+      leaves = same_running refl full.kept full.adds.2 refl;
+    })
+
+pub unreachable-requires : goal.unreachable-requires
+unreachable-requires g c =
+    let now = c.args.space.now in
+    let after = c.in-Some.ensures in
+    let fine = returned (sectors_of now) (free_in now) c.args.extent.start c.args.extent.length after.0 after.1 (omega arith) in
+    let fault = c.in-default-give-back.ensures.0 in
+    let z : ◌≡◌ {A = ℕ} 0 1 = cc in
+    omega arith
+
+pub returns : goal.returns
+returns g c =
+    let now = c.args.space.now in
+    let after = c.in-Some.ensures in
+    let fine = returned (sectors_of now) (free_in now) c.args.extent.start c.args.extent.length after.0 after.1 (omega arith) in
+    let done = c.in-Ok.ensures in
+    let logged = c.in-ok-add-extent.ensures in
+    let n = words_length Freeing c.args.extent.start c.args.extent.length (omega (arith, c.args.extent.some)) in
+    record {
+      answer = freed refl (after.0, after.1) (omega arith) (omega (arith, logged.adds.0));
+      leaves = same_running (ap (λ z. z.sectors) done.1) logged.kept logged.adds.1 (cc (done.0, fine));
+    }

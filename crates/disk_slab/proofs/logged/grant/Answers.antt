@@ -1,0 +1,48 @@
+-- The best fit is found, its front is logged, and then it is granted.
+use Rattle.std.proofs.Common.{◌≡◌, ℕ, sym, refl, ap, ◌∙◌, arith}
+use Rattle.std.proofs.lemmas.Result.{err_from_is_err_and}
+use Rattle.slab_log.specs.declared.entry.Effect.TheVariants.{Allocates as Allocating}
+use Rattle.slab_log.proofs.Written.{words_length}
+use Rattle.disk_slab.specs.Answers.Allocates.{no_want, no_space, granted}
+use Rattle.disk_slab.proofs.Views.{same_running}
+use Rattle.disk_slab.proofs.Granted.{front_granted}
+use Rattle.disk_slab.proofs.Written.{grant_lacks}
+use Rattle.disk_slab.proofs.logged.grant.Goals as goal
+
+pub returns-then-want-eq0 : goal.returns-then-want-eq0
+returns-then-want-eq0 g c = record { answer = no_want refl c.if-want-eq0.true; leaves = refl }
+
+pub returns-in-default : goal.returns-in-default
+returns-in-default g c =
+    let none = c.in-default.ensures in
+    record { answer = no_space refl (omega arith) (λ fits. omega (arith, none fits.0 fits.1 fits.2, fits.3)); leaves = refl }
+
+pub returns-in-err-add-extent : goal.returns-in-err-add-extent
+returns-in-err-add-extent g c =
+    let p = err_from_is_err_and c.from-residual.result c.from-residual.ensures.1 in
+    let full = c.in-err-add-extent.ensures in
+    let fit = c.in-Some.ensures in
+    rw (p.1, p.2)
+    (record {
+      answer = grant_lacks _ refl c.args.want c.in-Some.fit.start _ (omega arith)
+          (c.in-Some.fit.start, c.in-Some.fit.length, fit.extent, fit.enough) full.adds.0 full.adds.1;
+      leaves = same_running refl full.kept full.adds.2 refl;
+    })
+
+pub unreachable-requires : goal.unreachable-requires
+unreachable-requires g c =
+    let fine = front_granted c.args.space.now c.args.want c.in-Some.fit.start c.in-Some.fit.length (omega arith) c.in-Some.ensures in
+    let fault = c.in-default-grant.ensures.0 in
+    let z : ◌≡◌ {A = ℕ} 0 1 = cc in
+    omega arith
+
+pub returns : goal.returns
+returns g c =
+    let fine = front_granted c.args.space.now c.args.want c.in-Some.fit.start c.in-Some.fit.length (omega arith) c.in-Some.ensures in
+    let done = c.in-Ok.ensures in
+    let logged = c.in-ok-add-extent.ensures in
+    let n = words_length Allocating c.in-Some.fit.start c.args.want (omega arith) in
+    record {
+      answer = granted refl (omega arith) c.in-Some.ensures refl (omega (arith, logged.adds.0));
+      leaves = same_running (ap (λ z. z.sectors) done.1) logged.kept logged.adds.1 (cc (done.0, fine));
+    }

@@ -1,0 +1,102 @@
+// The calls of a live slab.
+ghost use Rattle.std.specs.Prelude.{◌≡◌, ℕ};
+ghost use Rattle.disk_slab.specs.View.{view, Sound};
+ghost use Rattle.disk_slab.specs.Answers.{Allocates, after_allocate, Frees, after_free, Condenses, with_words, NeverFull, Shows, Follows};
+
+use crate::figures::Figures;
+use crate::logged::{condense, give_back, grant};
+use crate::state::Live;
+use crate::summary::figures_of;
+use slab_log::{Extent, Refusal, Size, Stop};
+use store::LogStore;
+
+impl<S: LogStore> Live<S> {
+    // Grants the first `want` sectors of the free extent that they fit best, and logs the grant.
+    pub fn allocate(&mut self, want: u64) -> Result<Extent, Refusal>
+        ensures answer { Allocates (view S.LogStore self.old) want result }
+        ensures leaves { view S.LogStore self.new ≡ after_allocate (view S.LogStore self.old) result }
+        ensures sound { Sound (view S.LogStore self.old) → Sound (view S.LogStore self.new) }
+    {
+        if let Some(stop) = self.fault {
+            return Err(Refusal::Stopped(stop));
+        }
+        grant(&mut self.space, &mut self.store, want)
+    }
+
+    // Takes an extent back, any whole or part of what is in hand, and logs the return.
+    pub fn free(&mut self, extent: Extent) -> Result<(), Refusal>
+        ensures answer { Frees (view S.LogStore self.old) extent result }
+        ensures leaves { view S.LogStore self.new ≡ after_free (view S.LogStore self.old) extent result }
+        ensures sound { Sound (view S.LogStore self.old) → Sound (view S.LogStore self.new) }
+    {
+        if let Some(stop) = self.fault {
+            return Err(Refusal::Stopped(stop));
+        }
+        give_back(&mut self.space, &mut self.store, extent)
+    }
+
+    // Replaces the log with the condensed log, and answers how many words that has.
+    pub fn condense(&mut self) -> Result<usize, Refusal>
+        ensures answer { Condenses (view S.LogStore self.old) (S.LogStore.words self.new.store) result }
+        ensures leaves { view S.LogStore self.new ≡ with_words (view S.LogStore self.old) (S.LogStore.words self.new.store) }
+        ensures sound { Sound (view S.LogStore self.old) → Sound (view S.LogStore self.new) }
+        ensures room { Sound (view S.LogStore self.old) → NeverFull result }
+    {
+        if let Some(stop) = self.fault {
+            return Err(Refusal::Stopped(stop));
+        }
+        condense(&self.space, &mut self.store)
+    }
+
+    // The figures; those of a stopped slab are 0, but for the number of words.
+    pub fn figures(&self) -> Figures
+        ensures { Shows (view S.LogStore self.now) result }
+    {
+        let words = self.store.count();
+        match self.fault {
+            None => figures_of(&self.space, words),
+            Some(_) => Figures {
+                free: 0,
+                extents: 0,
+                longest: 0,
+                words,
+            },
+        }
+    }
+
+    // The lowest free extent that begins at or after a sector.
+    pub fn next(&self, sector: u64) -> Option<Extent>
+        ensures { Follows (view S.LogStore self.now) sector result }
+    {
+        match self.fault {
+            None => self.space.next(sector),
+            Some(_) => None,
+        }
+    }
+
+    // The fault that stopped the slab.
+    pub fn fault(&self) -> Option<Stop>
+        ensures { result ≡ (view S.LogStore self.now).fault }
+    {
+        self.fault
+    }
+
+    // The size that the slab was opened at.
+    pub fn size(&self) -> Size
+        ensures { result.sectors ≡ (view S.LogStore self.now).size }
+    {
+        self.space.size()
+    }
+
+    // The store, as the slab's calls have left it.
+    pub fn close(self) -> S
+        ensures { result ≡ self.store }
+    {
+        let Live {
+            store,
+            space: _,
+            fault: _,
+        } = self;
+        store
+    }
+}

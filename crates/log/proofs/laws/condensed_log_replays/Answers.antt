@@ -1,6 +1,0 @@
--- The law is a lemma.
-use Rattle.log.proofs.Replays.{condensed_replays}
-use Rattle.log.proofs.laws.condensed_log_replays.Goals as goal
-
-pub returns : goal.returns
-returns c = condensed_replays

@@ -1,6 +1,0 @@
--- The law is a lemma.
-use Rattle.log.proofs.RoundTrip.{reading_undoes_writing}
-use Rattle.log.proofs.laws.reading_undoes_writing.Goals as goal
-
-pub returns : goal.returns
-returns c = reading_undoes_writing

@@ -1,8 +1,0 @@
--- The two numbers are the word's fields.
-use Rattle.std.proofs.Common.{refl, arith}
-use Rattle.log.specs.Words.{span_of}
-use Rattle.log.proofs.Same.{same_span}
-use Rattle.log.proofs.reading.span_fields.Goals as goal
-
-pub returns : goal.returns
-returns c = same_span _ (span_of c.args.word) refl (omega arith)
