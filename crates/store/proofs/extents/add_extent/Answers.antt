@@ -35,16 +35,16 @@ unreachable-requires g c =
     let long = words_length c.args.effect e.start e.length e.some in
     let below : c.loop-n.n < length (words_of c.args.effect e.start e.length) = omega (arith, c.entries-needed.ensures, c.loop-n-test.true) in
     let there = slice_get-get_or _ _ 0 below in
-    let none = sym c.nth_word.ensures ∙ c.in-default.is in
+    let none = sym c.nth_word.ensures ∙ c.in_default.is in
     let z : ◌≡◌ {A = ℕ} 0 1 = cc in
     omega arith
 
-pub unreachable-requires-in-default-add : goal.unreachable-requires-in-default-add
-unreachable-requires-in-default-add g c =
+pub unreachable-requires-in_default-add : goal.unreachable-requires-in_default-add
+unreachable-requires-in_default-add g c =
     let e = c.args.extent in
     let long = words_length c.args.effect e.start e.length e.some in
     let room = next_fits _ _ _ _ _ _ c.loop-n.invariant (omega (arith, c.entries-needed.ensures, c.loop-n-test.true)) in
-    let full = c.in-default-add.ensures.adds.0 in
+    let full = c.in_default-add.ensures.adds.0 in
     omega arith
 
 pub loop-n-preserved : goal.loop-n-preserved
