@@ -6,14 +6,14 @@ use Rattle.disk_slab.specs.Answers.Condenses.{too_many, log_full}
 use Rattle.disk_slab.proofs.Written.{condensed_written}
 use Rattle.disk_slab.proofs.logged.condense.Goals as goal
 
-pub returns-then-free-extents-ge-MOST-EXTENTS : goal.returns-then-free-extents-ge-MOST-EXTENTS
-returns-then-free-extents-ge-MOST-EXTENTS g c = record { kept = refl; answer = too_many refl (omega (arith, c.free_extents.ensures)) refl }
+pub returns-then-free_extents-ge-MOST_EXTENTS : goal.returns-then-free_extents-ge-MOST_EXTENTS
+returns-then-free_extents-ge-MOST_EXTENTS g c = record { kept = refl; answer = too_many refl (omega (arith, c.free_extents.ensures)) refl }
 
 pub returns-then-places-needed : goal.returns-then-places-needed
 returns-then-places-needed g c =
     let now = c.args.space.now in
     let all = condensed_exists (sectors_of now) (free_in now) in
-    let same = c.condensed-len-needed.ensures all.0 all.1 in
+    let same = c.condensed_len-needed.ensures all.0 all.1 in
     let places = c.capacity-places.ensures in
     record {
       kept = refl;
@@ -23,11 +23,11 @@ returns-then-places-needed g c =
 pub returns : goal.returns
 returns g c =
     let now = c.args.space.now in
-    let same = c.condensed-len-needed.ensures in
+    let same = c.condensed_len-needed.ensures in
     let places = c.capacity-places.ensures in
     record {
-      kept = c.write-condensed.ensures.kept ∙ c.empty.ensures.kept;
+      kept = c.write_condensed.ensures.kept ∙ c.empty.ensures.kept;
       answer =
-          condensed_written now _ _ _ _ _ c.write-condensed.result (omega (arith, c.free_extents.ensures)) c.empty.ensures.emptied c.empty.ensures.kept
-          (λ log all. omega (arith, same log all)) c.write-condensed.ensures.writes;
+          condensed_written now _ _ _ _ _ c.write_condensed.result (omega (arith, c.free_extents.ensures)) c.empty.ensures.emptied c.empty.ensures.kept
+          (λ log all. omega (arith, same log all)) c.write_condensed.ensures.writes;
     }

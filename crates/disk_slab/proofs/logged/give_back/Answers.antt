@@ -15,23 +15,23 @@ returns-then-extent-size g c =
     let size = ap (λ z. z.sectors) c.size.ensures in
     record { answer = beyond refl (omega arith); leaves = refl }
 
-pub returns-in-default : goal.returns-in-default
-returns-in-default g c =
+pub returns-in_default : goal.returns-in_default
+returns-in_default g c =
     let size = ap (λ z. z.sectors) c.size.ensures in
     record {
-      answer = ⊎_elim (λ past. absurd (omega arith)) (λ met. already refl (omega arith) met) c.in-default.ensures;
+      answer = ⊎_elim (λ past. absurd (omega arith)) (λ met. already refl (omega arith) met) c.in_default.ensures;
       leaves = refl;
     }
 
-pub returns-then-standing-ge-MOST-EXTENTS : goal.returns-then-standing-ge-MOST-EXTENTS
-returns-then-standing-ge-MOST-EXTENTS g c =
+pub returns-then-standing-ge-MOST_EXTENTS : goal.returns-then-standing-ge-MOST_EXTENTS
+returns-then-standing-ge-MOST_EXTENTS g c =
     let after = c.in-Some.ensures in
     record { answer = too_many refl (after.0, after.1) (omega arith); leaves = refl }
 
-pub returns-in-err-add-extent : goal.returns-in-err-add-extent
-returns-in-err-add-extent g c =
-    let p = err_from_is_err_and c.from-residual.result c.from-residual.ensures.1 in
-    let full = c.in-err-add-extent.ensures in
+pub returns-in_err-add_extent : goal.returns-in_err-add_extent
+returns-in_err-add_extent g c =
+    let p = err_from_is_err_and c.from_residual.result c.from_residual.ensures.1 in
+    let full = c.in_err-add_extent.ensures in
     let after = c.in-Some.ensures in
     rw (p.1, p.2)
     (record {
@@ -44,7 +44,7 @@ unreachable-requires g c =
     let now = c.args.space.now in
     let after = c.in-Some.ensures in
     let fine = returned (sectors_of now) (free_in now) c.args.extent.start c.args.extent.length after.0 after.1 (omega arith) in
-    let fault = c.in-default-give-back.ensures.0 in
+    let fault = c.in_default-give_back.ensures.0 in
     let z : ◌≡◌ {A = ℕ} 0 1 = cc in
     omega arith
 
@@ -54,7 +54,7 @@ returns g c =
     let after = c.in-Some.ensures in
     let fine = returned (sectors_of now) (free_in now) c.args.extent.start c.args.extent.length after.0 after.1 (omega arith) in
     let done = c.in-Ok.ensures in
-    let logged = c.in-ok-add-extent.ensures in
+    let logged = c.in_ok-add_extent.ensures in
     let n = words_length Freeing c.args.extent.start c.args.extent.length (omega (arith, c.args.extent.some)) in
     record {
       answer = freed refl (after.0, after.1) (omega arith) (omega (arith, logged.adds.0));

@@ -7,7 +7,7 @@ use Rattle.script.proofs.text.add_reply.Goals as goal
 pub returns : goal.returns
 returns c =
     let joined = append_assoc (vec_items c.args.out.now) (text_of c.args.reply) (10 ∷ []) in
-    let kept = c.in-ok-reserve.ensures.items in
-    let text_in = c.put-text.ensures.items in
-    let line-in = c.push-reserved.ensures.items in
+    let kept = c.in_ok-reserve.ensures.items in
+    let text_in = c.put_text.ensures.items in
+    let line-in = c.push_reserved.ensures.items in
     cc

@@ -10,8 +10,8 @@ returns c =
       items =
           four_added (codes "free " ++ decimal f.free) (codes " extents " ++ decimal f.extents)
           (codes " longest " ++ decimal f.longest) (codes " words " ++ decimal f.words) _ _ _ _ _
-          c.put-number.ensures.items c.put-number-2.ensures.items c.put-number-3.ensures.items
-          c.put-number-4.ensures.items;
+          c.put_number.ensures.items c.put_number-2.ensures.items c.put_number-3.ensures.items
+          c.put_number-4.ensures.items;
       len = search rules;
       capacity = search rules;
     }

@@ -14,9 +14,9 @@ pub returns : goal.returns
 returns g c =
     let now = c.args.self.now in
     let r = c.grant.result in
-    let answer = answered g.S.LogStore now.fault c.in-default.is now.space now.store
+    let answer = answered g.S.LogStore now.fault c.in_default.is now.space now.store
     (λ (v : View). Allocates v c.args.want r) c.grant.ensures.answer in
-    let leaves = left_by g.S.LogStore now.fault c.in-default.is now.space c.grant.new.space now.store c.grant.new.store
+    let leaves = left_by g.S.LogStore now.fault c.in_default.is now.space c.grant.new.space now.store c.grant.new.store
     (λ (v : View). after_allocate v r) c.grant.ensures.leaves in
     record {
       answer = answer;

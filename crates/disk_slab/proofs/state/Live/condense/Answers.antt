@@ -23,9 +23,9 @@ returns g c =
     let now = c.args.self.now in
     let r = c.condense.result in
     let after = g.S.LogStore.words c.condense.new.store in
-    let answer = answered g.S.LogStore now.fault c.in-default.is now.space now.store
+    let answer = answered g.S.LogStore now.fault c.in_default.is now.space now.store
     (λ (v : View). Condenses v after r) c.condense.ensures.answer in
-    let leaves = left_by g.S.LogStore now.fault c.in-default.is now.space now.space now.store c.condense.new.store
+    let leaves = left_by g.S.LogStore now.fault c.in_default.is now.space now.space now.store c.condense.new.store
     (λ (v : View). with_words v after) (same_running refl c.condense.ensures.kept refl refl) in
     record {
       answer = answer;

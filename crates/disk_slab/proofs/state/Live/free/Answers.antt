@@ -15,9 +15,9 @@ returns g c =
     let now = c.args.self.now in
     let e = c.args.extent in
     let r = c.give_back.result in
-    let answer = answered g.S.LogStore now.fault c.in-default.is now.space now.store
+    let answer = answered g.S.LogStore now.fault c.in_default.is now.space now.store
     (λ (v : View). Frees v e r) c.give_back.ensures.answer in
-    let leaves = left_by g.S.LogStore now.fault c.in-default.is now.space c.give_back.new.space now.store c.give_back.new.store
+    let leaves = left_by g.S.LogStore now.fault c.in_default.is now.space c.give_back.new.space now.store c.give_back.new.store
     (λ (v : View). after_free v e r) c.give_back.ensures.leaves in
     record {
       answer = answer;

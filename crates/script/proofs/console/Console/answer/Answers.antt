@@ -10,7 +10,7 @@ pub returns-in-Some : goal.returns-in-Some
 returns-in-Some g c =
     let e = c.turn.ensures in
     record {
-      answers = read_as c.read-line-command.ensures (rw (e.reply, e.leaves) (turned _ _ c.in-Some.next c.in-Some.ensures));
+      answers = read_as c.read_line-command.ensures (rw (e.reply, e.leaves) (turned _ _ c.in-Some.next c.in-Some.ensures));
       sound = λ _. e.sound;
     }
 
@@ -18,16 +18,16 @@ pub returns-in-Serving : goal.returns-in-Serving
 returns-in-Serving g c =
     let G = g.S.LogStore in
     record {
-      answers = read_as c.read-line-command.ensures (stood G _ (Serving c.in-Serving.live) c.in-Serving.is c.reply.ensures.answers);
+      answers = read_as c.read_line-command.ensures (stood G _ (Serving c.in-Serving.live) c.in-Serving.is c.reply.ensures.answers);
       sound = λ s. c.reply.ensures.sound (subst (λ (t : Stage g.row.S.Denot). SoundStage (seen G t)) c.in-Serving.is s);
     }
 
-pub returns-in-default-stage : goal.returns-in-default-stage
-returns-in-default-stage g c =
+pub returns-in_default-stage : goal.returns-in_default-stage
+returns-in_default-stage g c =
     let now = c.args.self.now in
     record {
       answers =
-          read_as c.read-line-command.ensures
-          (turned_away g.S.LogStore now.stage _ now.standing c.in-default.ensures c.in-default-stage.not-Serving);
+          read_as c.read_line-command.ensures
+          (turned_away g.S.LogStore now.stage _ now.standing c.in_default.ensures c.in_default-stage.not-Serving);
       sound = λ s. s;
     }

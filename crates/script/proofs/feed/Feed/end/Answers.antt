@@ -11,5 +11,5 @@ returns-then-self-eq0 g c = λ line is.
 pub returns : goal.returns
 returns g c = λ line is.
     let feed = c.args.self in
-    last_answered c.add-reply.result (kept_some feed.bytes (omega arith) line feed.len is c.if-self-eq0.false)
-    (answers_line feed.bytes (omega arith) line feed.len is (feed.len - 0) (omega arith) c.answer.ensures.answers) c.add-reply.ensures
+    last_answered c.add_reply.result (kept_some feed.bytes (omega arith) line feed.len is c.if-self-eq0.false)
+    (answers_line feed.bytes (omega arith) line feed.len is (feed.len - 0) (omega arith) c.answer.ensures.answers) c.add_reply.ensures

@@ -4,18 +4,18 @@ use Rattle.space.proofs.Searched.{best_none}
 use Rattle.space.proofs.Asked.{run_in, keyed_in, listed_key, sized, best_in}
 use Rattle.space.proofs.space.Space.best_fit.Goals as goal
 
-pub invariant-of-result : goal.invariant-of-result
-invariant-of-result c =
+pub invariant_of-result : goal.invariant_of-result
+invariant_of-result c =
     let now = c.args.self.now in
-    let b = best_in now _ _ c.in-Some.e c.lowest-from.ensures c.in-Some.is in
+    let b = best_in now _ _ c.in-Some.e c.lowest_from.ensures c.in-Some.is in
     let z = sized now _ _ (listed_key now c.in-Some.e.key b.listed) in
     (z.some, (z.ends, tt))
 
 pub returns-in-None : goal.returns-in-None
-returns-in-None c = λ s l r. best_none _ _ (sym c.lowest-from.ensures ∙ c.in-None.is) s l (keyed_in c.args.self.now s l r)
+returns-in-None c = λ s l r. best_none _ _ (sym c.lowest_from.ensures ∙ c.in-None.is) s l (keyed_in c.args.self.now s l r)
 
 pub returns-in-Some : goal.returns-in-Some
 returns-in-Some c =
     let now = c.args.self.now in
-    let b = best_in now _ _ c.in-Some.e c.lowest-from.ensures c.in-Some.is in
+    let b = best_in now _ _ c.in-Some.e c.lowest_from.ensures c.in-Some.is in
     record { extent = run_in now _ _ (listed_key now c.in-Some.e.key b.listed); enough = b.enough; others = λ s l r w. b.others s l (keyed_in now s l r) w }

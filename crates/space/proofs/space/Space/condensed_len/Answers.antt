@@ -11,8 +11,8 @@ loop-extent-init c =
     let now = c.args.self.now in
     (omega arith, omega arith, λ log w. record { done = []; walked = walk_starts (sectors_of now) (free_in now) log w; count = refl })
 
-pub overflow-add-words : goal.overflow-add-words
-overflow-add-words c =
+pub overflow_add-words : goal.overflow_add-words
+overflow_add-words c =
     let now = c.args.self.now in
     omega (arith, c.loop-extent.invariant.0, c.loop-extent.invariant.1, now.size.most, c.entries-words.ensures)
 
@@ -39,4 +39,4 @@ pub returns : goal.returns
 returns c log w =
     let now = c.args.self.now in
     let n = c.loop-extent.invariant.2 log w in
-    n.count ∙ ap length (sym (walk_ends (used (sectors_of now) (free_in now)) log c.loop-extent.at n.done n.walked c.in-default.ensures))
+    n.count ∙ ap length (sym (walk_ends (used (sectors_of now) (free_in now)) log c.loop-extent.at n.done n.walked c.in_default.ensures))

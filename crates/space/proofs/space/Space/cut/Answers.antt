@@ -7,43 +7,43 @@ use Rattle.space.proofs.Spaces.{spaced_in, lies_in, few_in}
 use Rattle.space.proofs.Cutting.{front_clear, back_clear, cut_is}
 use Rattle.space.proofs.space.Space.cut.Goals as goal
 
-pub overflow-add-end : goal.overflow-add-end
-overflow-add-end c =
+pub overflow_add-end : goal.overflow_add-end
+overflow_add-end c =
     let now = c.args.self.now in
     omega (arith, c.requires.held.2, (lies_in now _ _ c.requires.held.0).within, now.size.most)
 
-pub overflow-add-holder-end : goal.overflow-add-holder-end
-overflow-add-holder-end c =
+pub overflow_add-holder_end : goal.overflow_add-holder_end
+overflow_add-holder_end c =
     let now = c.args.self.now in
     omega (arith, (lies_in now _ _ c.requires.held.0).within, now.size.most)
 
-pub put-end-requires : goal.put-end-requires
-put-end-requires c =
+pub put_end-requires : goal.put_end-requires
+put_end-requires c =
     let now = c.args.self.now in
     let k = c.args.holder.key in
     let held = c.requires.held in
     let clear = front_clear _ _ (spaced_in now) k c.args.holder.value held.0 c.args.start c.args.len c.requires.some held.1 held.2 in
     record {
-      within = omega (arith, (lies_in now _ _ held.0).within, ap (λ z. z.sectors) c.take-out.ensures.moved.size, held.1, held.2);
-      clear = λ one. subst (λ f. Clear f k (c.args.start - k)) (sym c.take-out.ensures.moved.sectors) (clear one);
-      few = λ one. omega (arith, c.take-out.ensures.fewer, few_in now);
+      within = omega (arith, (lies_in now _ _ held.0).within, ap (λ z. z.sectors) c.take_out.ensures.moved.size, held.1, held.2);
+      clear = λ one. subst (λ f. Clear f k (c.args.start - k)) (sym c.take_out.ensures.moved.sectors) (clear one);
+      few = λ one. omega (arith, c.take_out.ensures.fewer, few_in now);
     }
 
-pub put-end-requires-2 : goal.put-end-requires-2
-put-end-requires-2 c =
+pub put_end-requires-2 : goal.put_end-requires-2
+put_end-requires-2 c =
     let now = c.args.self.now in
     let k = c.args.holder.key in
     let end = c.args.start + c.args.len in
     let held = c.requires.held in
     let clear = back_clear _ _ (spaced_in now) k c.args.holder.value held.0 c.args.start c.args.len c.requires.some held.1 held.2 in
-    let sectors = c.put-end.ensures.moved.sectors ∙ ap (λ f. give_back f k (c.args.start - k)) c.take-out.ensures.moved.sectors in
+    let sectors = c.put_end.ensures.moved.sectors ∙ ap (λ f. give_back f k (c.args.start - k)) c.take_out.ensures.moved.sectors in
     record {
       within =
-          omega (arith, (lies_in now _ _ held.0).within, held.2, ap (λ z. z.sectors) c.take-out.ensures.moved.size, ap (λ z. z.sectors) c.put-end.ensures.moved.size);
+          omega (arith, (lies_in now _ _ held.0).within, held.2, ap (λ z. z.sectors) c.take_out.ensures.moved.size, ap (λ z. z.sectors) c.put_end.ensures.moved.size);
       clear = λ one. subst (λ f. Clear f end ((k + c.args.holder.value) - end)) (sym sectors) (clear one);
       few = λ one. elim (cases_lt k c.args.start) [
-        | inl l ↦ omega (arith, c.put-end.ensures.more, c.take-out.ensures.fewer, c.requires.room l (omega arith))
-        | inr l ↦ omega (arith, c.put-end.ensures.more, c.take-out.ensures.fewer, few_in now)
+        | inl l ↦ omega (arith, c.put_end.ensures.more, c.take_out.ensures.fewer, c.requires.room l (omega arith))
+        | inr l ↦ omega (arith, c.put_end.ensures.more, c.take_out.ensures.fewer, few_in now)
       ];
     }
 
@@ -54,8 +54,8 @@ returns c =
     let end = c.args.start + c.args.len in
     let held = c.requires.held in
     let is = cut_is _ _ (spaced_in now) k c.args.holder.value held.0 c.args.start c.args.len c.requires.some held.1 held.2 in
-    let sectors = c.put-end.ensures.moved.sectors ∙ ap (λ f. give_back f k (c.args.start - k)) c.take-out.ensures.moved.sectors in
+    let sectors = c.put_end.ensures.moved.sectors ∙ ap (λ f. give_back f k (c.args.start - k)) c.take_out.ensures.moved.sectors in
     record {
-      sectors = c.put-end-2.ensures.moved.sectors ∙ (ap (λ f. give_back f end ((k + c.args.holder.value) - end)) sectors ∙ is);
-      size = c.put-end-2.ensures.moved.size ∙ (c.put-end.ensures.moved.size ∙ c.take-out.ensures.moved.size);
+      sectors = c.put_end-2.ensures.moved.sectors ∙ (ap (λ f. give_back f end ((k + c.args.holder.value) - end)) sectors ∙ is);
+      size = c.put_end-2.ensures.moved.size ∙ (c.put_end.ensures.moved.size ∙ c.take_out.ensures.moved.size);
     }

@@ -10,8 +10,8 @@ use Rattle.space.proofs.Cutting.{all_free, both_ends}
 use Rattle.space.proofs.Meant.{granted, granted_crowded}
 use Rattle.space.proofs.space.Space.grant_run.Goals as goal
 
-pub overflow-add-inside-2 : goal.overflow-add-inside-2
-overflow-add-inside-2 c =
+pub overflow_add-inside-2 : goal.overflow_add-inside-2
+overflow_add-inside-2 c =
     let now = c.args.self.now in
     omega (arith, (lies_in now _ _ c.in-Some.ensures.0).within, now.size.most)
 

@@ -3,12 +3,12 @@ use Rattle.std.proofs.Common.{refl}
 use Rattle.space.proofs.Moves.{first_extent}
 use Rattle.space.proofs.space.Space.new.Goals as goal
 
-pub invariant-of-result : goal.invariant-of-result
-invariant-of-result c =
-    let p = first_extent c.args.size.sectors _ _ _ _ _ _ c.args.size.some c.new-by-start.ensures c.new-by-length.ensures c.insert.ensures c.insert-2.ensures in
+pub invariant_of-result : goal.invariant_of-result
+invariant_of-result c =
+    let p = first_extent c.args.size.sectors _ _ _ _ _ _ c.args.size.some c.new-by_start.ensures c.new-by_length.ensures c.insert.ensures c.insert-2.ensures in
     (∣ p.held.spaced ∣₁, (p.held.twins, (p.held.level, (p.held.counted, tt))))
 
 pub returns : goal.returns
 returns c =
-    let p = first_extent c.args.size.sectors _ _ _ _ _ _ c.args.size.some c.new-by-start.ensures c.new-by-length.ensures c.insert.ensures c.insert-2.ensures in
+    let p = first_extent c.args.size.sectors _ _ _ _ _ _ c.args.size.some c.new-by_start.ensures c.new-by_length.ensures c.insert.ensures c.insert-2.ensures in
     record { sectors = p.sectors; size = refl }

@@ -11,7 +11,7 @@ use Rattle.space.proofs.space.Space.next_used.Goals as goal
 pub returns-then-start-self : goal.returns-then-start-self
 returns-then-start-self c s l r =
     let now = c.args.self.now in
-    let from = c.used-start-start.ensures in
+    let from = c.used_start-start.ensures in
     elim (cases_lt s c.args.sector) [
       | inl k ↦ k
       | inr k ↦
@@ -19,30 +19,30 @@ returns-then-start-self c s l r =
           absurd (both_ways _ (from.quiet s k (omega (arith, c.if-start-self.true))) (run_begins (used (sectors_of now) (free_in now)) s l r))
     ]
 
-pub used-end-requires : goal.used-end-requires
-used-end-requires c =
+pub used_end-requires : goal.used_end-requires
+used_end-requires c =
     let now = c.args.self.now in
     record {
       within = c.if-start-self.false;
-      off = not_free_here _ _ (spaced_in now) _ _ c.used-start-start.ensures c.if-start-self.false;
+      off = not_free_here _ _ (spaced_in now) _ _ c.used_start-start.ensures c.if-start-self.false;
     }
 
-pub overflow-sub-length : goal.overflow-sub-length
-overflow-sub-length c = omega (arith, c.used-end.ensures.some)
+pub overflow_sub-length : goal.overflow_sub-length
+overflow_sub-length c = omega (arith, c.used_end.ensures.some)
 
-pub invariant-of-result : goal.invariant-of-result
-invariant-of-result c =
-    let to = c.used-end.ensures in
+pub invariant_of-result : goal.invariant_of-result
+invariant_of-result c =
+    let to = c.used_end.ensures in
     (omega (arith, to.some), (omega (arith, to.some, to.within, c.args.self.now.size.most), tt))
 
 pub returns : goal.returns
 returns c =
     let now = c.args.self.now in
-    let from = c.used-start-start.ensures in
-    let to = c.used-end.ensures in (
+    let from = c.used_start-start.ensures in
+    let to = c.used_end.ensures in (
       run_from _ _ (spaced_in now) c.args.sector _ _ from c.if-start-self.false to.some to.within to.filled to.after,
       from.from,
-      λ s l r k. elim (cases_lt s c.used-start-start.result) [
+      λ s l r k. elim (cases_lt s c.used_start-start.result) [
         | inl b ↦ absurd (both_ways _ (from.quiet s k b) (run_begins (used (sectors_of now) (free_in now)) s l r))
         | inr b ↦ b
       ],

@@ -5,13 +5,13 @@ use Rattle.space.proofs.Moves.{put_both}
 use Rattle.space.proofs.Spaces.{held_in, spaced_in}
 use Rattle.space.proofs.space.Space.put_in.Goals as goal
 
-pub overflow-add-self : goal.overflow-add-self
-overflow-add-self c =
+pub overflow_add-self : goal.overflow_add-self
+overflow_add-self c =
     let now = c.args.self.now in
     omega (arith, total_most 0 now.size.sectors _ (spaced_in now), now.counted, c.requires.within, now.size.most)
 
-pub invariant-of-self : goal.invariant-of-self
-invariant-of-self c =
+pub invariant_of-self : goal.invariant_of-self
+invariant_of-self c =
     let p = put_both _ _ c.args.start c.args.len _ _ _ _ (held_in c.args.self.now) c.requires.some c.requires.within c.requires.clear c.requires.few _ _ c.insert.ensures c.insert-2.ensures in
     (∣ p.held.spaced ∣₁, (p.held.twins, (p.held.level, (p.held.counted, tt))))
 

@@ -6,21 +6,21 @@ use Rattle.space.proofs.Searched.{previous_none}
 use Rattle.space.proofs.Spaces.{spaced_in, lies_in, previous_in}
 use Rattle.space.proofs.space.Space.reaches.Goals as goal
 
-pub overflow-add-result : goal.overflow-add-result
-overflow-add-result c =
+pub overflow_add-result : goal.overflow_add-result
+overflow_add-result c =
     let now = c.args.self.now in
-    let p = previous_in now _ _ c.in-Some.e c.highest-before.ensures c.in-Some.is in
+    let p = previous_in now _ _ c.in-Some.e c.highest_before.ensures c.in-Some.is in
     omega (arith, (lies_in now _ _ p.listed).within, now.size.most)
 
 pub returns-in-None : goal.returns-in-None
 returns-in-None c =
-    sym (nothing_reaches _ _ (spaced_in c.args.self.now) c.args.start c.args.len (previous_none _ _ (sym c.highest-before.ensures ∙ c.in-None.is)))
+    sym (nothing_reaches _ _ (spaced_in c.args.self.now) c.args.start c.args.len (previous_none _ _ (sym c.highest_before.ensures ∙ c.in-None.is)))
 
 pub returns-in-Some : goal.returns-in-Some
 returns-in-Some c =
     let now = c.args.self.now in
     let e = c.in-Some.e in
-    let p = previous_in now _ _ e c.highest-before.ensures c.in-Some.is in
+    let p = previous_in now _ _ e c.highest_before.ensures c.in-Some.is in
     elim (cases_lt c.args.start (e.key + e.value)) [
       | inl l ↦ lt-ltb _ _ l ∙ sym (reached _ _ (spaced_in now) c.args.start c.args.len e c.requires.some p l)
       | inr l ↦ le-ltb _ _ l ∙ sym (unreached _ _ (spaced_in now) c.args.start c.args.len e p l)

@@ -33,7 +33,7 @@ loop-place-preserved g c =
     let sofar = c.loop-place.invariant in
     let space = c.loop-place.space in
     let after = c.take_word.new.self in
-    let took = c.in-default-take-word.ensures in
+    let took = c.in_default-take_word.ensures in
     let read-so = ap (λ w. take_word (sectors_of space) (free_in space) (read w)) (sym there.1) ∙ took.0 in
     let done = word_done (sectors_of space) place (free_in space) ws there.0 (free_in after) read-so in
     record {

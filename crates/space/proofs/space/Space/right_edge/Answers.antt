@@ -4,8 +4,8 @@ use Rattle.space.proofs.Edges.{find_some, right_some, right_none}
 use Rattle.space.proofs.Spaces.{spaced_in, lies_in}
 use Rattle.space.proofs.space.Space.right_edge.Goals as goal
 
-pub overflow-add-result : goal.overflow-add-result
-overflow-add-result c =
+pub overflow_add-result : goal.overflow_add-result
+overflow_add-result c =
     let now = c.args.self.now in
     let listed = find_some c.args.end c.in-Some.len _ (sym c.get.ensures ∙ c.in-Some.is) in
     omega (arith, (lies_in now _ _ listed).within, now.size.most)

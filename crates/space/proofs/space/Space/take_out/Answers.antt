@@ -4,13 +4,13 @@ use Rattle.space.proofs.Moves.{take_both}
 use Rattle.space.proofs.Spaces.{held_in, lengths_ordered}
 use Rattle.space.proofs.space.Space.take_out.Goals as goal
 
-pub overflow-sub-self : goal.overflow-sub-self
-overflow-sub-self c =
+pub overflow_sub-self : goal.overflow_sub-self
+overflow_sub-self c =
     let p = take_both _ _ c.args.start c.args.len _ _ _ _ (held_in c.args.self.now) c.requires (lengths_ordered c.args.self.now) _ _ c.remove.ensures c.remove-2.ensures in
     p.few
 
-pub invariant-of-self : goal.invariant-of-self
-invariant-of-self c =
+pub invariant_of-self : goal.invariant_of-self
+invariant_of-self c =
     let p = take_both _ _ c.args.start c.args.len _ _ _ _ (held_in c.args.self.now) c.requires (lengths_ordered c.args.self.now) _ _ c.remove.ensures c.remove-2.ensures in
     let few = p.few in
     let held = p.held (c.args.self.now.free - c.args.len) (omega arith) in

@@ -12,31 +12,31 @@ use Rattle.space.proofs.space.Space.used_start.Goals as goal
 pub returns-then-sector-eq0 : goal.returns-then-sector-eq0
 returns-then-sector-eq0 c =
     let now = c.args.self.now in
-    subst (λ n. UsedFrom (used (sectors_of now) (free_in now)) (sectors_of now) n c.right-edge.result) (sym c.if-sector-eq0.true)
-    (at_zero _ _ (spaced_in now) c.right-edge.result c.right-edge.ensures)
+    subst (λ n. UsedFrom (used (sectors_of now) (free_in now)) (sectors_of now) n c.right_edge.result) (sym c.if-sector-eq0.true)
+    (at_zero _ _ (spaced_in now) c.right_edge.result c.right_edge.ensures)
 
-pub overflow-add-end : goal.overflow-add-end
-overflow-add-end c =
+pub overflow_add-end : goal.overflow_add-end
+overflow_add-end c =
     let now = c.args.self.now in
-    let p = previous_in now _ _ c.in-Some.before c.highest-before.ensures c.in-Some.is in
+    let p = previous_in now _ _ c.in-Some.before c.highest_before.ensures c.in-Some.is in
     omega (arith, (lies_in now _ _ p.listed).within, now.size.most)
 
 pub returns-then-end-sector : goal.returns-then-end-sector
 returns-then-end-sector c =
     let now = c.args.self.now in
-    let p = previous_in now _ _ c.in-Some.before c.highest-before.ensures c.in-Some.is in
+    let p = previous_in now _ _ c.in-Some.before c.highest_before.ensures c.in-Some.is in
     behind_free _ _ (spaced_in now) c.args.sector _ _ p.listed c.if-end-sector.true (λ s a b. absurd (omega (arith, p.before)))
 
-pub used-after-requires : goal.used-after-requires
-used-after-requires c =
+pub used_after-requires : goal.used_after-requires
+used_after-requires c =
     let now = c.args.self.now in
-    let none = previous_none _ _ (sym c.highest-before.ensures ∙ c.in-None.is) in
+    let none = previous_none _ _ (sym c.highest_before.ensures ∙ c.in-None.is) in
     record { some = omega (arith, c.if-sector-eq0.false); off = before_all _ _ (spaced_in now) c.args.sector none _ (omega (arith, c.if-sector-eq0.false)) }
 
-pub used-after-requires-else-end-sector : goal.used-after-requires-else-end-sector
-used-after-requires-else-end-sector c =
+pub used_after-requires-else-end-sector : goal.used_after-requires-else-end-sector
+used_after-requires-else-end-sector c =
     let now = c.args.self.now in
-    let p = previous_in now _ _ c.in-Some.before c.highest-before.ensures c.in-Some.is in
+    let p = previous_in now _ _ c.in-Some.before c.highest_before.ensures c.in-Some.is in
     record {
       some = omega (arith, c.if-sector-eq0.false);
       off = past_previous _ _ (spaced_in now) c.args.sector c.in-Some.before p _ (omega (arith, c.if-end-sector.false)) (omega (arith, c.if-sector-eq0.false));

@@ -11,7 +11,7 @@ pub returns-then-places-needed : goal.returns-then-places-needed
 returns-then-places-needed g c =
     let now = c.args.self.now in
     let all = condensed_exists (sectors_of now) (free_in now) in
-    let same = c.condensed-len-needed.ensures all.0 all.1 in
+    let same = c.condensed_len-needed.ensures all.0 all.1 in
     let bounded = g.S.LogStore.bounded c.args.out.now in
     record {
       kept = refl;
@@ -22,7 +22,7 @@ pub loop-extent-init : goal.loop-extent-init
 loop-extent-init g c =
     let now = c.args.self.now in
     let all = condensed_exists (sectors_of now) (free_in now) in
-    let same = c.condensed-len-needed.ensures all.0 all.1 in
+    let same = c.condensed_len-needed.ensures all.0 all.1 in
     let bounded = g.S.LogStore.bounded c.args.out.now in
     record {
       log = all.0;
@@ -39,7 +39,7 @@ loop-extent-init g c =
 pub unreachable-requires : goal.unreachable-requires
 unreachable-requires g c =
     let room = write_fits _ _ _ _ _ _ _ _ c.loop-extent.invariant c.in-Some.extent c.in-Some.ensures in
-    let full = c.in-default-add-extent.ensures.adds.0 in
+    let full = c.in_default-add_extent.ensures.adds.0 in
     omega arith
 
 pub loop-extent-smaller : goal.loop-extent-smaller
@@ -58,7 +58,7 @@ pub returns : goal.returns
 returns g c =
     let now = c.args.self.now in
     let w = c.loop-extent.invariant in
-    let all = walk_ends (used (sectors_of now) (free_in now)) w.log c.loop-extent.at w.done w.walked c.in-default.ensures in
+    let all = walk_ends (used (sectors_of now) (free_in now)) w.log c.loop-extent.at w.done w.walked c.in_default.ensures in
     record {
       kept = w.kept;
       writes = (w.log, w.condensed, w.count, omega (arith, w.count, w.fits), w.words ∙ ap (λ l. g.S.LogStore.words c.args.out.now ++ l) (sym all));
