@@ -14,7 +14,7 @@ use crate::tree::find::{around, right_end};
 // Makes all records unused.
 pub(crate) fn start<K: Key, V: Copy>(nodes: &mut [Node<K, V>]) -> Heads
     requires { length nodes.old ≡ 1024 }
-    ensures sound { ∥ Sound before nodes.new result ∥₁ }
+    ensures sound { ∥ Sound K.before nodes.new result ∥₁ }
     ensures empty { entries nodes.new result ≡ [] }
 {
     let unused = chain_all(nodes);
@@ -32,9 +32,9 @@ pub(crate) fn add<K: Key, V: Copy>(
     key: K,
     value: V,
 ) -> bool
-    requires { ∥ Sound before nodes.old heads.old ∥₁ }
-    ensures sound { ∥ Sound before nodes.new heads.new ∥₁ }
-    ensures puts { Inserts before (entries nodes.old heads.old) (entries nodes.new heads.new) (pair key value) result }
+    requires { ∥ Sound K.before nodes.old heads.old ∥₁ }
+    ensures sound { ∥ Sound K.before nodes.new heads.new ∥₁ }
+    ensures puts { Inserts K.before (entries nodes.old heads.old) (entries nodes.new heads.new) (pair key value) result }
 {
     let at = heads.unused;
     if at == NONE {
@@ -60,9 +60,9 @@ pub(crate) fn take<K: Key, V: Copy>(
     heads: &mut Heads,
     key: K,
 ) -> Option<V>
-    requires { ∥ Sound before nodes.old heads.old ∥₁ }
-    ensures sound { ∥ Sound before nodes.new heads.new ∥₁ }
-    ensures takes { Removes before (entries nodes.old heads.old) (entries nodes.new heads.new) key result }
+    requires { ∥ Sound K.before nodes.old heads.old ∥₁ }
+    ensures sound { ∥ Sound K.before nodes.new heads.new ∥₁ }
+    ensures takes { Removes K.before (entries nodes.old heads.old) (entries nodes.new heads.new) key result }
 {
     match remove(nodes, heads.root, key) {
         None => None,
@@ -97,8 +97,8 @@ fn pair_at<K: Copy, V: Copy>(nodes: &[Node<K, V>], link: u16) -> Option<Entry<K,
 
 // The value of a key.
 pub(crate) fn get<K: Key, V: Copy>(nodes: &[Node<K, V>], heads: Heads, key: K) -> Option<V>
-    requires { ∥ Sound before nodes.now heads ∥₁ }
-    ensures { result ≡ find before key (entries nodes.now heads) }
+    requires { ∥ Sound K.before nodes.now heads ∥₁ }
+    ensures { result ≡ find K.before key (entries nodes.now heads) }
 {
     let at = around(nodes, heads.root, key).from;
     if at == NONE {
@@ -118,8 +118,8 @@ pub(crate) fn lowest_from<K: Key, V: Copy>(
     heads: Heads,
     key: K,
 ) -> Option<Entry<K, V>>
-    requires { ∥ Sound before nodes.now heads ∥₁ }
-    ensures { result ≡ first (from before key (entries nodes.now heads)) }
+    requires { ∥ Sound K.before nodes.now heads ∥₁ }
+    ensures { result ≡ first (from K.before key (entries nodes.now heads)) }
 {
     let sides = around(nodes, heads.root, key);
     pair_at(nodes, sides.from)
@@ -131,8 +131,8 @@ pub(crate) fn highest_before<K: Key, V: Copy>(
     heads: Heads,
     key: K,
 ) -> Option<Entry<K, V>>
-    requires { ∥ Sound before nodes.now heads ∥₁ }
-    ensures { result ≡ last (under before key (entries nodes.now heads)) }
+    requires { ∥ Sound K.before nodes.now heads ∥₁ }
+    ensures { result ≡ last (under K.before key (entries nodes.now heads)) }
 {
     let sides = around(nodes, heads.root, key);
     pair_at(nodes, sides.below)
@@ -140,7 +140,7 @@ pub(crate) fn highest_before<K: Key, V: Copy>(
 
 // The last pair.
 pub(crate) fn highest<K: Key, V: Copy>(nodes: &[Node<K, V>], heads: Heads) -> Option<Entry<K, V>>
-    requires { ∥ Sound before nodes.now heads ∥₁ }
+    requires { ∥ Sound K.before nodes.now heads ∥₁ }
     ensures { result ≡ last (entries nodes.now heads) }
 {
     let end = right_end(nodes, heads.root);

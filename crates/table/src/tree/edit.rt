@@ -26,9 +26,9 @@ pub(crate) fn insert<K: Key, V: Copy>(
     key: K,
     value: V,
 ) -> Option<u16>
-    requires tree { (t : Tree K V) × Whole before nodes.old root t × Free nodes.old at t }
+    requires tree { (t : Tree K V) × Whole K.before nodes.old root t × Free nodes.old at t }
     requires short { length nodes.old ≤ 1024 }
-    ensures { (t : Tree K V) → Whole before nodes.old root t → Free nodes.old at t → Inserts before nodes.old nodes.new (item at key value) t result }
+    ensures { (t : Tree K V) → Whole K.before nodes.old root t → Free nodes.old at t → Inserts K.before nodes.old nodes.new (item at key value) t result }
 {
     let mut path = [Step { at: 0, left: false }; DEEP];
     let place = seek(nodes, root, key, &mut path);
@@ -70,9 +70,9 @@ fn lift<K: Copy, V: Copy>(nodes: &mut [Node<K, V>], root: u16) -> u16
 
 // Takes the node of a key out of the tree; nothing where there is none.
 pub(crate) fn remove<K: Key, V: Copy>(nodes: &mut [Node<K, V>], root: u16, key: K) -> Option<Taken>
-    requires tree { (t : Tree K V) × Whole before nodes.old root t }
+    requires tree { (t : Tree K V) × Whole K.before nodes.old root t }
     requires short { length nodes.old ≤ 1024 }
-    ensures { (t : Tree K V) → Whole before nodes.old root t → Removes before nodes.old nodes.new key t result }
+    ensures { (t : Tree K V) → Whole K.before nodes.old root t → Removes K.before nodes.old nodes.new key t result }
 {
     let mut path = [Step { at: 0, left: false }; DEEP];
     let place = seek(nodes, root, key, &mut path);

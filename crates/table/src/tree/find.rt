@@ -17,8 +17,8 @@ pub(crate) struct Sides {
 
 // The last node whose key comes before a key, and the first whose key does not.
 pub(crate) fn around<K: Key, V: Copy>(nodes: &[Node<K, V>], root: u16, key: K) -> Sides
-    requires { (t : Tree K V) × Whole before nodes.now root t }
-    ensures { (t : Tree K V) → Whole before nodes.now root t → Parted before key result.below result.from (inorder t) }
+    requires { (t : Tree K V) × Whole K.before nodes.now root t }
+    ensures { (t : Tree K V) → Whole K.before nodes.now root t → Parted K.before key result.below result.from (inorder t) }
 {
     let mut below = NONE;
     let mut from = NONE;
@@ -38,8 +38,8 @@ pub(crate) fn around<K: Key, V: Copy>(nodes: &[Node<K, V>], root: u16, key: K) -
 
 // The last node of a tree.
 pub(crate) fn right_end<K: Key, V: Copy>(nodes: &[Node<K, V>], root: u16) -> u16
-    requires { (t : Tree K V) × Whole before nodes.now root t }
-    ensures { (t : Tree K V) → Whole before nodes.now root t → result ≡ final (inorder t) }
+    requires { (t : Tree K V) × Whole K.before nodes.now root t }
+    ensures { (t : Tree K V) → Whole K.before nodes.now root t → result ≡ final (inorder t) }
 {
     let mut end = NONE;
     let mut link = root;

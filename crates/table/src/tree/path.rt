@@ -75,8 +75,8 @@ pub(crate) fn seek<K: Key, V: Copy>(
     key: K,
     path: &mut [Step],
 ) -> Place
-    requires { (t : Tree K V) × Whole before nodes.now root t × (tall t ≤ length path.old) }
-    ensures { (t : Tree K V) → Whole before nodes.now root t → tall t ≤ length path.old → Descent before (Under before key) (Over before key) nodes.now path.new result.deep result.link t × Keyed nodes.now result.link key }
+    requires { (t : Tree K V) × Whole K.before nodes.now root t × (tall t ≤ length path.old) }
+    ensures { (t : Tree K V) → Whole K.before nodes.now root t → tall t ≤ length path.old → Descent K.before (Under K.before key) (Over K.before key) nodes.now path.new result.deep result.link t × Keyed nodes.now result.link key }
 {
     let mut deep = 0;
     let mut link = root;

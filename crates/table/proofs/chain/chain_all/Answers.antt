@@ -5,11 +5,11 @@ use Rattle.table.proofs.Model.{nth_some}
 use Rattle.table.proofs.Unused.{Chaining, one_chained}
 use Rattle.table.proofs.chain.chain_all.Goals as goal
 
-pub overflow-cast-at : goal.overflow-cast-at
-overflow-cast-at g c = omega (arith, c.loop-i.invariant.within, c.loop-i.auto.nodes, c.requires)
+pub overflow_cast-at : goal.overflow_cast-at
+overflow_cast-at g c = omega (arith, c.loop-i.invariant.within, c.loop-i.auto.nodes, c.requires)
 
-pub give-back-requires : goal.give-back-requires
-give-back-requires g c = omega (arith, c.loop-i.invariant.within, c.loop-i-test.true)
+pub give_back-requires : goal.give_back-requires
+give_back-requires g c = omega (arith, c.loop-i.invariant.within, c.loop-i-test.true)
 
 pub loop-i-preserved : goal.loop-i-preserved
 loop-i-preserved g c =

@@ -18,8 +18,8 @@ insert-requires g c =
     let s = opened_up g.row.K.coded g.row.V.coded c.requires in
     record { tree = (_, s.whole, (spare_ready s c.if-at.false).free); short = omega (arith, s.size) }
 
-pub overflow-add-heads : goal.overflow-add-heads
-overflow-add-heads g c = omega (arith, (spare_ready (opened_up g.row.K.coded g.row.V.coded c.requires) c.if-at.false).fewer)
+pub overflow_add-heads : goal.overflow_add-heads
+overflow_add-heads g c = omega (arith, (spare_ready (opened_up g.row.K.coded g.row.V.coded c.requires) c.if-at.false).fewer)
 
 pub returns-in-None : goal.returns-in-None
 returns-in-None g c =

@@ -7,12 +7,12 @@ use Rattle.table.proofs.records.highest_before.Goals as goal
 pub around-sides-requires : goal.around-sides-requires
 around-sides-requires g c = (_, (opened_up g.row.K.coded g.row.V.coded c.requires).whole)
 
-pub pair-at-requires : goal.pair-at-requires
-pair-at-requires g c =
+pub pair_at-requires : goal.pair_at-requires
+pair_at-requires g c =
     let s = opened_up g.row.K.coded g.row.V.coded c.requires in
     record { short = omega (arith, s.size); within = below_within s _ _ _ (c.around-sides.ensures _ s.whole) }
 
 pub returns : goal.returns
 returns g c =
     let s = opened_up g.row.K.coded g.row.V.coded c.requires in
-    c.pair-at.ensures ∙ highest_is s _ _ _ (c.around-sides.ensures _ s.whole)
+    c.pair_at.ensures ∙ highest_is s _ _ _ (c.around-sides.ensures _ s.whole)

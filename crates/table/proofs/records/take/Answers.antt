@@ -18,14 +18,14 @@ read-requires g c =
     let e = c.in-Some.ensures _ s.whole in
     taken_within s g.met.K.Key.ordered _ _ e.0 _ _ e.1
 
-pub give-back-requires : goal.give-back-requires
-give-back-requires g c =
+pub give_back-requires : goal.give_back-requires
+give_back-requires g c =
     let s = opened_up g.row.K.coded g.row.V.coded c.requires in
     let e = c.in-Some.ensures _ s.whole in
     taken_within s g.met.K.Key.ordered _ _ e.0 _ _ e.1
 
-pub overflow-sub-heads : goal.overflow-sub-heads
-overflow-sub-heads g c =
+pub overflow_sub-heads : goal.overflow_sub-heads
+overflow_sub-heads g c =
     let s = opened_up g.row.K.coded g.row.V.coded c.requires in
     let e = c.in-Some.ensures _ s.whole in
     omega (arith, some_taken s g.met.K.Key.ordered _ _ e.0 _ _ e.1)

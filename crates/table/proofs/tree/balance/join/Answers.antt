@@ -3,8 +3,8 @@ use Rattle.std.proofs.Common.{arith}
 use Rattle.table.proofs.Model.{joined}
 use Rattle.table.proofs.tree.balance.join.Goals as goal
 
-pub overflow-add-height : goal.overflow-add-height
-overflow-add-height g c =
+pub overflow_add-height : goal.overflow_add-height
+overflow_add-height g c =
     let room = c.requires.2 in
     let low = room.low_left in
     let low-2 = room.low_right in

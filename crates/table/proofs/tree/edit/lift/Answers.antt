@@ -6,21 +6,21 @@ use Rattle.table.proofs.tree.edit.lift.Goals as goal
 pub read-n-requires : goal.read-n-requires
 read-n-requires g c = link_within _ _ c.requires.0 c.requires.1.stands c.requires.1.some
 
-pub take-min-min-requires : goal.take-min-min-requires
-take-min-min-requires g c =
+pub take_min-min-requires : goal.take_min-min-requires
+take_min-min-requires g c =
     let k = lift_ready _ _ c.requires.0 _ c.requires.1 c.read-n.ensures c.if-right.false in
     (k.1, k.2.stem_right)
 
 pub read-m-requires : goal.read-m-requires
 read-m-requires g c =
     let k = lift_ready _ _ c.requires.0 _ c.requires.1 c.read-n.ensures c.if-right.false in
-    let m = c.take-min-min.ensures k.1 k.2.stem_right in
+    let m = c.take_min-min.ensures k.1 k.2.stem_right in
     nth_within _ _ _ m.held
 
 pub balance-requires : goal.balance-requires
 balance-requires g c =
     let k = lift_ready _ _ c.requires.0 _ c.requires.1 c.read-n.ensures c.if-right.false in
-    let m = c.take-min-min.ensures k.1 k.2.stem_right in
+    let m = c.take_min-min.ensures k.1 k.2.stem_right in
     (m.tree, k.0, k.2.room _ _ _ _ m c.read-m.ensures, k.2.uneven _ _ _ m)
 
 pub returns-then-right : goal.returns-then-right
@@ -29,5 +29,5 @@ returns-then-right g c = λ t s. lift_leaf _ _ t _ s c.read-n.ensures c.if-right
 pub returns-else-right : goal.returns-else-right
 returns-else-right g c = λ t s.
     let k = lift_ready _ _ t _ s c.read-n.ensures c.if-right.false in
-    let m = c.take-min-min.ensures k.1 k.2.stem_right in
+    let m = c.take_min-min.ensures k.1 k.2.stem_right in
     k.2.next _ _ _ _ _ _ m c.read-m.ensures (c.balance.ensures m.tree k.0 (k.2.room _ _ _ _ m c.read-m.ensures) (k.2.uneven _ _ _ m))
