@@ -24,8 +24,8 @@ impl Space {
     // Adds the condensed log to what a store holds, and answers how many words it has; or, where the store has too few
     // places for it, adds none.
     pub fn write_condensed<S: LogStore>(&self, out: &mut S) -> Result<usize, Refusal>
-        ensures kept { capacity out.new ≡ capacity out.old }
-        ensures writes { WritesCondensed self.now (capacity out.old) (words out.old) (words out.new) result }
+        ensures kept { S.capacity out.new ≡ S.capacity out.old }
+        ensures writes { WritesCondensed self.now (S.capacity out.old) (S.words out.old) (S.words out.new) result }
     {
         let needed = self.condensed_len();
         let places = out.capacity() - out.count();

@@ -50,7 +50,7 @@ impl Space {
 
     // The free sectors that a store's log leaves at a size, or its first fault.
     pub fn replay<S: LogStore>(store: &S, size: Size) -> Result<Space, Stop>
-        ensures { Replays size (words store.now) result }
+        ensures { Replays size (S.words store.now) result }
     {
         let mut space = Space::new(size);
         for place in 0..store.count() {

@@ -9,7 +9,7 @@ invariant_of-result c =
     let now = c.args.self.now in
     let b = best_in now _ _ c.in-Some.e c.lowest_from.ensures c.in-Some.is in
     let z = sized now _ _ (listed_key now c.in-Some.e.key b.listed) in
-    (z.some, (z.ends, tt))
+    record { some = z.some; ends = z.ends }
 
 pub returns-in-None : goal.returns-in-None
 returns-in-None c = λ s l r. best_none _ _ (sym c.lowest_from.ensures ∙ c.in-None.is) s l (keyed_in c.args.self.now s l r)

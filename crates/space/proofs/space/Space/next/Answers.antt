@@ -9,7 +9,7 @@ invariant_of-result c =
     let now = c.args.self.now in
     let n = next_in now _ _ c.in-Some.e c.lowest_from.ensures c.in-Some.is in
     let z = sized now _ _ n.listed in
-    (z.some, (z.ends, tt))
+    record { some = z.some; ends = z.ends }
 
 pub returns-in-None : goal.returns-in-None
 returns-in-None c = λ s l r. next_none _ _ (sym c.lowest_from.ensures ∙ c.in-None.is) s l (listed_in c.args.self.now s l r)

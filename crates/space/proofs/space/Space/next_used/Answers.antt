@@ -33,7 +33,7 @@ overflow_sub-length c = omega (arith, c.used_end.ensures.some)
 pub invariant_of-result : goal.invariant_of-result
 invariant_of-result c =
     let to = c.used_end.ensures in
-    (omega (arith, to.some), (omega (arith, to.some, to.within, c.args.self.now.size.most), tt))
+    record { some = omega (arith, to.some); ends = omega (arith, to.some, to.within, c.args.self.now.size.most) }
 
 pub returns : goal.returns
 returns c =

@@ -14,7 +14,7 @@ invariant_of-self c =
     let p = take_both _ _ c.args.start c.args.len _ _ _ _ (held_in c.args.self.now) c.requires (lengths_ordered c.args.self.now) _ _ c.remove.ensures c.remove-2.ensures in
     let few = p.few in
     let held = p.held (c.args.self.now.free - c.args.len) (omega arith) in
-    (∣ held.spaced ∣₁, (held.twins, (held.level, (held.counted, tt))))
+    record { spaced = ∣ held.spaced ∣₁; twins = held.twins; level = held.level; counted = held.counted }
 
 pub returns : goal.returns
 returns c =
