@@ -16,6 +16,7 @@ use command::Command;
 use failure::Failure;
 use files::{audit_file, check_file, condense_file, format_file, list_file};
 use sample::make_sample;
+use std::process::ExitCode;
 
 const HELP: &str = "logtool: a tool for log images of spool slabs
 
@@ -65,16 +66,24 @@ fn perform_or_tell(rt: &HostRuntime, command: &Command) -> Result<(), Failed> {
     Err(Failed)
 }
 
-fn main(rt: HostRuntime) -> Result<(), Failed> {
-    let Ok(args) = std::env::args(&rt) else {
+// Does what the command line asks for.
+fn perform_args(rt: &HostRuntime) -> Result<(), Failed> {
+    let Ok(args) = std::env::args(rt) else {
         let _ = eprintln!(rt; "logtool: an argument is no text");
         return Err(Failed);
     };
     match Command::from_args(args) {
-        Ok(command) => perform_or_tell(&rt, &command),
+        Ok(command) => perform_or_tell(rt, &command),
         Err(failure) => {
             let _ = eprintln!(rt; "logtool: {failure}");
             Err(Failed)
         }
+    }
+}
+
+fn main(rt: HostRuntime) -> ExitCode {
+    match perform_args(&rt) {
+        Ok(()) => ExitCode::SUCCESS,
+        Err(Failed) => ExitCode::FAILURE,
     }
 }

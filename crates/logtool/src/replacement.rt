@@ -14,7 +14,7 @@ pub(crate) fn create_new(rt: &HostRuntime, path: &str) -> io::Result<File> {
 // Puts the bytes in the place of a file's: they are written to a new file beside it, which then takes its name.
 // Where that fails the file is as it was, and the new one is gone.
 pub(crate) fn replace_file(rt: &HostRuntime, path: &str, bytes: &[u8]) -> Result<(), Failure> {
-    let beside = format!(rt.alloc(), "{path}.new")?;
+    let beside = format!(in rt.alloc(); "{path}.new")?;
     let file = match create_new(rt, beside.as_str()) {
         Ok(file) => file,
         Err(error) => return Err(Failure::Replacement(error)),

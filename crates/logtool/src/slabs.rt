@@ -3,8 +3,8 @@ ghost use Rattle.disk_slab.specs.View.{loaded};
 ghost use Rattle.disk_slab.specs.Answers.{Condenses, NeverFull};
 ghost use Rattle.disk_slab.specs.Audits.{Audits};
 
-use slab_log::{Refusal, Size, Stop};
 use disk_slab::{Audit, Cold};
+use slab_log::{Refusal, Size, Stop};
 use store::LogStore;
 
 // What the log of a store holds at a size, or its first fault.

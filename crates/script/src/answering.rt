@@ -12,8 +12,8 @@ use crate::console::Console;
 use crate::line::read_line;
 use crate::reply::Reply;
 use crate::stage::{Stage, Turn};
-use slab_log::{Extent, Refusal, Size};
 use disk_slab::{Cold, Live};
+use slab_log::{Extent, Refusal, Size};
 use store::LogStore;
 
 impl<S: LogStore> Console<S> {

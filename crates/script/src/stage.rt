@@ -1,6 +1,6 @@
 // How far the run of a script has come.
-use slab_log::{Refusal, Size};
 use disk_slab::Live;
+use slab_log::{Refusal, Size};
 use store::LogStore;
 
 // Linear, as the slab is. `Moving` stands in while one stage is taken out and the next is put in.

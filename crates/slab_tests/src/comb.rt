@@ -2,8 +2,8 @@
 use crate::helpers::{
     again, figures, free_teeth, frees, fresh, grants, log_teeth, next_is, refuses_return,
 };
-use slab_log::{Refusal, Size};
 use disk_slab::{Cold, Live};
+use slab_log::{Refusal, Size};
 use std::process::Abort;
 use std::test::Fail;
 use store::OwnStore;

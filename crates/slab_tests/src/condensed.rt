@@ -1,7 +1,7 @@
 // A run of 40,000 sectors in use is two words of a condensed log, and is in use when that log is loaded.
 use crate::helpers::{again, figures, frees, fresh, grants, refuses_want};
-use slab_log::{Refusal, Size};
 use disk_slab::Live;
+use slab_log::{Refusal, Size};
 use std::process::Abort;
 use std::test::Fail;
 use store::{LogStore, OwnStore};

@@ -1,7 +1,7 @@
 // A grant begins the shortest free extent that is long enough, and of several such the lowest.
 use crate::helpers::{figures, frees, fresh, grants, next_is};
-use slab_log::Size;
 use disk_slab::Live;
+use slab_log::Size;
 use std::process::Abort;
 use std::test::Fail;
 use store::OwnStore;

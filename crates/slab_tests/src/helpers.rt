@@ -1,6 +1,6 @@
 // What several tests share: slabs over own stores, loading anew, and checked calls.
-use slab_log::{Effect, Extent, Refusal, Size};
 use disk_slab::{Cold, Figures, Live};
+use slab_log::{Effect, Extent, Refusal, Size};
 use std::process::Abort;
 use std::test::Fail;
 use store::{LogStore, OwnStore, add_extent};

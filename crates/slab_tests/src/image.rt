@@ -1,7 +1,7 @@
 // A slab over an area of bytes: what one use of it leaves there, the next one finds.
 use crate::helpers::{figures, frees, grants, next_is, refuses_return, refuses_want};
-use slab_log::{Refusal, Size};
 use disk_slab::{Cold, Live};
+use slab_log::{Refusal, Size};
 use std::process::Abort;
 use std::test::Fail;
 use store::{ImageStore, LogStore, check as check_header, format as format_area};

@@ -1,7 +1,7 @@
 // The refusals of a slab that runs; what is refused changes nothing.
 use crate::helpers::{figures, frees, fresh, grants, next_is, refuses_return, refuses_want};
-use slab_log::{Refusal, Size};
 use disk_slab::Live;
+use slab_log::{Refusal, Size};
 use std::process::Abort;
 use std::test::Fail;
 use store::OwnStore;

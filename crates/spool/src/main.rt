@@ -8,6 +8,7 @@ use input::answer_input;
 use request::Request;
 use script::Console;
 use std::io;
+use std::process::ExitCode;
 use store::OwnStore;
 
 const HELP: &str = "spool: an allocator of disk sectors that runs a script
@@ -62,16 +63,24 @@ fn perform(rt: &HostRuntime, request: Request) -> Result<(), Failed> {
     Err(Failed)
 }
 
-fn main(rt: HostRuntime) -> Result<(), Failed> {
-    let Ok(args) = std::env::args(&rt) else {
+// Does what the command line asks for.
+fn perform_args(rt: &HostRuntime) -> Result<(), Failed> {
+    let Ok(args) = std::env::args(rt) else {
         let _ = eprintln!(rt; "spool: an argument is no text");
         return Err(Failed);
     };
     match Request::from_args(args) {
-        Some(request) => perform(&rt, request),
+        Some(request) => perform(rt, request),
         None => {
             let _ = eprintln!(rt; "spool: usage: spool [--help | --version]");
             Err(Failed)
         }
+    }
+}
+
+fn main(rt: HostRuntime) -> ExitCode {
+    match perform_args(&rt) {
+        Ok(()) => ExitCode::SUCCESS,
+        Err(Failed) => ExitCode::FAILURE,
     }
 }

@@ -3,7 +3,7 @@ use Rattle.std.proofs.Common.{◌≡◌, [], drop, sym}
 use Rattle.script.specs.Numbers.{front_digits}
 use Rattle.script.proofs.Digits.{read_more, none_refused, many_refused, read_whole, digits_end, digits_stop}
 use Rattle.script.proofs.number.read_number.Goals as goal
-use Rattle.script.proofs.number.read_number.Goals.{Left-loop-at, then-loop-at-test+else-is-ascii-digit, else-loop-at-test}
+use Rattle.script.proofs.number.read_number.Goals.{Left-loop-at, then-loop-at-test+else-is_ascii_digit, else-loop-at-test}
 
 pub returns-then-at-from-eq-MOST_DIGITS : goal.returns-then-at-from-eq-MOST_DIGITS
 returns-then-at-from-eq-MOST_DIGITS c =
@@ -20,7 +20,7 @@ loop-at-preserved c =
 ends : (c : Left-loop-at) → front_digits (drop c.loop-at.at c.args.line.now) ≡ []
 ends c =
     elim c.loop-at-test.branch [
-      | then-loop-at-test+else-is-ascii-digit w ↦
+      | then-loop-at-test+else-is_ascii_digit w ↦
           digits_stop _ _ w.loop-at-test.true (sym w.if-is_ascii_digit.ensures.value)
       | else-loop-at-test w ↦ digits_end _ _ w.loop-at-test.false
     ]
