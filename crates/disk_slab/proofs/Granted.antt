@@ -1,8 +1,8 @@
 -- The front of a free extent is granted without a fault.
-use Rattle.std.proofs.Common.{◌≡◌, ℕ, ◌+◌, ◌<◌, ◌≤◌, true, false, Ok, arith}
+use Rattle.std.proofs.Common.{◌≡◌, ℕ, ◌+◌, ◌<◌, ◌≤◌, true, Ok, arith}
 use Rattle.std.proofs.lemmas.Bool.Decides.{nat_tests}
 use Rattle.slab_log.specs.Limits.{most_extents}
-use Rattle.slab_log.specs.Sectors.{Run, Within, used, runs}
+use Rattle.slab_log.specs.Sectors.{Within, used, runs}
 use Rattle.slab_log.specs.Replay.{grant, granting}
 use Rattle.slab_log.specs.Fit.{BestFit}
 use Rattle.slab_log.proofs.Steps.{from_T, to_not_T, none_meets, run_ends}

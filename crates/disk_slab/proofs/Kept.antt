@@ -1,11 +1,9 @@
 -- Each call keeps the log of a running slab replaying to its free sectors.
-use Rattle.std.proofs.Common.{◌≡◌, ℕ, ◌<◌, ◌≤◌, List, length, Ok, Err, Result, sym, refl, ap, ◌∙◌, subst, arith}
+use Rattle.std.proofs.Common.{◌≡◌, ℕ, ◌≤◌, List, length, Ok, Err, Result, arith}
 use Rattle.slab_log.specs.Limits.{most_sectors}
 use Rattle.slab_log.specs.Sectors.{Within}
-use Rattle.slab_log.specs.Replay.{replay}
 use Rattle.slab_log.specs.declared.extent.Extent.{Extent}
 use Rattle.slab_log.specs.declared.refusal.Refusal.{Refusal}
-use Rattle.slab_log.specs.declared.refusal.Refusal.TheVariants.{LogFull}
 use Rattle.slab_log.proofs.Logged.{grant_replays, return_replays}
 use Rattle.slab_log.proofs.Replays.{condensed_replays}
 use Rattle.slab_log.proofs.Shortest.{condensed_is_shortest}

@@ -1,8 +1,8 @@
 -- The words of a call find their places, or the refusal says how many it lacks.
-use Rattle.std.proofs.Common.{◌≡◌, ℕ, ◌+◌, ◌-◌, ◌<◌, ◌≤◌, List, [], ◌++◌, length, Ok, Err, Result, refl, ap, arith}
+use Rattle.std.proofs.Common.{◌≡◌, ℕ, ◌+◌, ◌<◌, ◌≤◌, List, [], length, Ok, Err, Result, refl, ap, arith}
 use Rattle.slab_log.specs.Limits.{most_extents}
-use Rattle.slab_log.specs.Sectors.{Sectors, runs}
-use Rattle.slab_log.specs.Words.{words_of, entries}
+use Rattle.slab_log.specs.Sectors.{runs}
+use Rattle.slab_log.specs.Words.{words_of}
 use Rattle.slab_log.specs.Condensed.{Condensed}
 use Rattle.slab_log.specs.declared.entry.Effect.TheVariants.{Allocates as Allocating, Frees as Freeing}
 use Rattle.slab_log.specs.declared.extent.Extent.{Extent}

@@ -1,5 +1,5 @@
 -- What each line of a script is answered with, and what it leaves.
-use Rattle.std.specs.Prelude.{◌≡◌, ℕ, Bool, true, false, List, Ok, Err, Result}
+use Rattle.std.specs.Prelude.{◌≡◌, ℕ, List, Ok, Err, Result}
 use Rattle.slab_log.specs.Make.{MakesSize, MakesExtent}
 use Rattle.slab_log.specs.declared.extent.Extent.{Extent}
 use Rattle.slab_log.specs.declared.size.Size.{Size as Slab-size}

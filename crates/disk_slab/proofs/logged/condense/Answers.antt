@@ -1,5 +1,5 @@
 -- The condensed log is counted before the store is emptied for it.
-use Rattle.std.proofs.Common.{◌≡◌, sym, refl, ap, ◌∙◌, arith}
+use Rattle.std.proofs.Common.{refl, ◌∙◌, arith}
 use Rattle.slab_log.proofs.Unique.{condensed_exists}
 use Rattle.space.specs.Free.{sectors_of, free_in}
 use Rattle.disk_slab.specs.Answers.Condenses.{too_many, log_full}

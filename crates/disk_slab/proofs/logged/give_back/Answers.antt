@@ -1,5 +1,5 @@
 -- The tests are made in order, the return is logged, and then its sectors are free.
-use Rattle.std.proofs.Common.{◌≡◌, ℕ, sym, refl, ap, ◌∙◌, ⊎_elim, arith}
+use Rattle.std.proofs.Common.{◌≡◌, ℕ, refl, ap, ⊎_elim, arith}
 use Rattle.std.proofs.lemmas.Result.{err_from_is_err_and}
 use Rattle.slab_log.specs.declared.entry.Effect.TheVariants.{Frees as Freeing}
 use Rattle.slab_log.proofs.Written.{words_length}

@@ -1,5 +1,5 @@
 -- The best fit is found, its front is logged, and then it is granted.
-use Rattle.std.proofs.Common.{◌≡◌, ℕ, sym, refl, ap, ◌∙◌, arith}
+use Rattle.std.proofs.Common.{◌≡◌, ℕ, refl, ap, arith}
 use Rattle.std.proofs.lemmas.Result.{err_from_is_err_and}
 use Rattle.slab_log.specs.declared.entry.Effect.TheVariants.{Allocates as Allocating}
 use Rattle.slab_log.proofs.Written.{words_length}

@@ -1,6 +1,4 @@
 -- What was counted, and what is still to be counted, are all words of the kind.
-use Rattle.std.proofs.Common.{◌≡◌, ◌+◌, drop}
-use Rattle.disk_slab.specs.Audits.{tally, allocating, freeing, debugging}
 use Rattle.disk_slab.proofs.Counted.{Sofar}
 use Rattle.disk_slab.proofs.summary.tally_of.Given as goal
 

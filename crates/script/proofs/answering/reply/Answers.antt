@@ -1,5 +1,5 @@
 -- A line against its form gets its refusal, and another what it asks for.
-use Rattle.std.proofs.Common.{◌≡◌, false, sym, ap, ◌∙◌}
+use Rattle.std.proofs.Common.{sym, ap, ◌∙◌}
 use Rattle.script.specs.Stages.{is_reload}
 use Rattle.script.proofs.Answered.{as_read, refused_line}
 use Rattle.script.proofs.answering.reply.Goals as goal

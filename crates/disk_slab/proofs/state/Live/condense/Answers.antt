@@ -1,5 +1,5 @@
 -- A stopped slab refuses, and a running one writes the condensed log.
-use Rattle.std.proofs.Common.{ℕ, List, sym, refl, subst}
+use Rattle.std.proofs.Common.{sym, refl, subst}
 use Rattle.disk_slab.specs.View.{View, Sound, view}
 use Rattle.disk_slab.specs.Answers.{Condenses, with_words}
 use Rattle.disk_slab.specs.Answers.Condenses.{stopped}

@@ -1,5 +1,5 @@
 -- A line leads to the next stage, or the slab answers it, or it is refused.
-use Rattle.std.proofs.Common.{◌≡◌, refl, subst}
+use Rattle.std.proofs.Common.{subst}
 use Rattle.script.specs.Stages.{seen, SoundStage}
 use Rattle.script.specs.declared.stage.Stage.{Stage}
 use Rattle.script.specs.declared.stage.Stage.TheVariants.{Serving}
