@@ -1,4 +1,4 @@
-// Tests of the crate log: the edges of sizes and extents, words read and written, the refusals' numbers.
+// Tests of the crate slab_log: the edges of sizes and extents, words read and written, the refusals' numbers.
 
 #![tactic(auto)]
 

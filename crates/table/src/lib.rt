@@ -13,5 +13,5 @@ mod tree;
 pub use key::{Key, LengthKey};
 pub use least::least_nodes;
 pub use length_table::LengthTable;
-pub use node::Entry;
+pub use node::{Beside, Entry};
 pub use start_table::StartTable;

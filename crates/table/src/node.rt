@@ -30,3 +30,10 @@ pub struct Entry<K, V> {
     pub key: K,
     pub value: V,
 }
+
+// The pairs on the two sides of a key: the last whose key comes before it, and the first whose key does not.
+#[derive(Clone, Copy)]
+pub struct Beside<K, V> {
+    pub below: Option<Entry<K, V>>,
+    pub from: Option<Entry<K, V>>,
+}

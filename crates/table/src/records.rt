@@ -6,7 +6,7 @@ ghost use Rattle.table.specs.Sound.{Sound, entries, entry_at};
 
 use crate::chain::{chain_all, give_back};
 use crate::key::Key;
-use crate::node::{Entry, Heads, NONE, Node};
+use crate::node::{Beside, Entry, Heads, NONE, Node};
 use crate::tree::balance::read;
 use crate::tree::edit::{insert, remove};
 use crate::tree::find::{around, right_end};
@@ -136,6 +136,18 @@ pub(crate) fn highest_before<K: Key, V: Copy>(
 {
     let sides = around(nodes, heads.root, key);
     pair_at(nodes, sides.below)
+}
+
+// The pairs on the two sides of a key.
+pub(crate) fn beside<K: Key, V: Copy>(nodes: &[Node<K, V>], heads: Heads, key: K) -> Beside<K, V>
+    requires { ∥ Sound K.before nodes.now heads ∥₁ }
+    ensures below { result.below ≡ last (under K.before key (entries nodes.now heads)) }
+    ensures from { result.from ≡ first (from K.before key (entries nodes.now heads)) }
+{
+    let sides = around(nodes, heads.root, key);
+    let below = pair_at(nodes, sides.below);
+    let from = pair_at(nodes, sides.from);
+    Beside { below, from }
 }
 
 // The last pair.

@@ -4,7 +4,7 @@ ghost use Rattle.table.specs.Pairs.{pair, Ordered, find, under, from, first, las
 ghost use Rattle.table.specs.StartTable.{pairs};
 
 use super::StartTable;
-use crate::node::{Entry, NONE, Node, RECORDS};
+use crate::node::{Beside, Entry, NONE, Node, RECORDS};
 use crate::records;
 
 impl StartTable {
@@ -66,6 +66,14 @@ impl StartTable {
         ensures { result ≡ last (under nat_lt start (pairs self.now)) }
     {
         records::highest_before(&self.nodes, self.heads, start)
+    }
+
+    // The pairs on the two sides of a start: the highest below it, and the lowest that is not.
+    pub fn beside(&self, start: u64) -> Beside<u64, u64>
+        ensures below { result.below ≡ last (under nat_lt start (pairs self.now)) }
+        ensures from { result.from ≡ first (from nat_lt start (pairs self.now)) }
+    {
+        records::beside(&self.nodes, self.heads, start)
     }
 
     // The highest pair.
