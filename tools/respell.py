@@ -7,7 +7,6 @@ A name is respelled if it has a dash and is declared in a file of specs/ or proo
 give_back. Names that Rattle or its library makes keep their dashes. --list prints the names with their new spelling and writes nothing.
 """
 
-import collections
 import glob
 import re
 import sys

@@ -4,7 +4,7 @@ use slab_log::{Refusal, Stop};
 use std::alloc::AllocError;
 use std::{fmt, io};
 
-#[derive(Drop)]
+#[derive(Debug, Drop)]
 pub enum Failure {
     // The words of the command line are none of the commands.
     Usage,

@@ -7,6 +7,8 @@ mod files;
 mod listing;
 mod replacement;
 mod sample;
+#[cfg(test)]
+mod sample_tests;
 mod slabs;
 #[cfg(test)]
 mod texts;

@@ -18,13 +18,19 @@ fn add_words<S: LogStore>(store: &mut S) -> Result<(), Failure> {
     Ok(())
 }
 
-// Makes a file with a small image, and lists it.
-pub(crate) fn make_sample(rt: &HostRuntime, path: &str) -> Result<(), Failure> {
+// The bytes of a small image.
+pub(crate) fn sample_image(rt: &HostRuntime) -> Result<Vec<u8>, Failure> {
     let mut image = Vec::from_elem(rt.alloc(), 0u8, SAMPLE_BYTES)?;
     format(&mut image)?;
     let mut store = ImageStore::attach(&mut image);
     add_words(&mut store)?;
     let _ = store.detach();
+    Ok(image)
+}
+
+// Makes a file with a small image, and lists it.
+pub(crate) fn make_sample(rt: &HostRuntime, path: &str) -> Result<(), Failure> {
+    let image = sample_image(rt)?;
     write_new(rt, path, &image)?;
     list_file(rt, path)
 }

@@ -8,7 +8,10 @@ use store::LogStore;
 const BLOCK: usize = 65536;
 
 // Answers every line of standard input as soon as its block has been read.
-pub fn answer_input<S: LogStore>(rt: &HostRuntime, console: &mut Console<S>) -> io::Result<()> {
+pub(crate) fn answer_input<S: LogStore>(
+    rt: &HostRuntime,
+    console: &mut Console<S>,
+) -> io::Result<()> {
     let mut block = vec![in rt.alloc(); 0u8; BLOCK]?;
     let mut out = Vec::new(rt.alloc());
     let mut feed = Feed::new();
