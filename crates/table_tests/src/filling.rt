@@ -41,6 +41,23 @@ fn descending(rt: HostRuntime) {
 }
 
 #[test]
+fn both_sides_of_a_start(rt: HostRuntime) {
+    let mut table = StartTable::new();
+    for start in [10, 20, 30] {
+        assert!(rt; table.insert(start, 1));
+    }
+    let at = table.beside(20);
+    assert_eq!(rt; start_of(at.below), 10);
+    assert_eq!(rt; start_of(at.from), 20);
+    let low = table.beside(10);
+    assert_eq!(rt; start_of(low.below), STARTS as u64);
+    assert_eq!(rt; start_of(low.from), 10);
+    let high = table.beside(31);
+    assert_eq!(rt; start_of(high.below), 30);
+    assert_eq!(rt; start_of(high.from), STARTS as u64);
+}
+
+#[test]
 fn spans_in_order(rt: HostRuntime) {
     let mut table = LengthTable::new();
     for number in 0..1024 {
