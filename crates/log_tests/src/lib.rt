@@ -1,4 +1,4 @@
-// Tests of the crate slab_log: the edges of sizes and extents, words read and written, the refusals' numbers.
+// Tests of the crate slab_log: the edges of sizes and extents, words read and written, the numbers and texts of refusals.
 
 #![tactic(auto)]
 
@@ -6,5 +6,7 @@
 mod edges;
 #[cfg(test)]
 mod numbers;
+#[cfg(test)]
+mod texts;
 #[cfg(test)]
 mod words;

@@ -1,19 +1,22 @@
 // Words read and written, on examples.
-use slab_log::{DebugWord, Effect, Entry, Extent, Fault, Span, decode, encode};
+use slab_log::{DebugWord, Effect, Entry, Extent, Fault, Span, encode};
 use std::test::Fail;
 
 #[test]
 fn entries_read(rt: HostRuntime) {
-    assert_eq!(rt; decode(0), Ok(Entry::Allocate(Span { offset: 0, run: 1 })));
     assert_eq!(rt;
-        decode(0x0032_0009),
+        Entry::try_from(0),
+        Ok(Entry::Allocate(Span { offset: 0, run: 1 }))
+    );
+    assert_eq!(rt;
+        Entry::try_from(0x0032_0009),
         Ok(Entry::Allocate(Span {
             offset: 50,
             run: 10,
         }))
     );
     assert_eq!(rt;
-        decode(0x001E_8013),
+        Entry::try_from(0x001E_8013),
         Ok(Entry::Free(Span {
             offset: 30,
             run: 20,
@@ -23,7 +26,10 @@ fn entries_read(rt: HostRuntime) {
         offset: 0x7FFF_FFFF_FFFF,
         run: 32_768,
     };
-    assert_eq!(rt; decode(0x7FFF_FFFF_FFFF_FFFF), Ok(Entry::Free(last)));
+    assert_eq!(rt;
+        Entry::try_from(0x7FFF_FFFF_FFFF_FFFF),
+        Ok(Entry::Free(last))
+    );
 }
 
 #[test]
@@ -33,15 +39,21 @@ fn other_words_read(rt: HostRuntime) {
         pass: 0,
         group: 0,
     };
-    assert_eq!(rt; decode(0x8000_0000_0000_0000), Ok(Entry::Debug(plain)));
+    assert_eq!(rt;
+        Entry::try_from(0x8000_0000_0000_0000),
+        Ok(Entry::Debug(plain))
+    );
     let full = DebugWord {
         action: 3,
         pass: 1023,
         group: 0x3_FFFF_FFFF_FFFF,
     };
-    assert_eq!(rt; decode(0xBFFF_FFFF_FFFF_FFFF), Ok(Entry::Debug(full)));
-    assert_eq!(rt; decode(0xC000_0000_0000_0000), Err(Fault::Kind));
-    assert_eq!(rt; decode(u64::MAX), Err(Fault::Kind));
+    assert_eq!(rt;
+        Entry::try_from(0xBFFF_FFFF_FFFF_FFFF),
+        Ok(Entry::Debug(full))
+    );
+    assert_eq!(rt; Entry::try_from(0xC000_0000_0000_0000), Err(Fault::Kind));
+    assert_eq!(rt; Entry::try_from(u64::MAX), Err(Fault::Kind));
 }
 
 #[test]
@@ -80,6 +92,20 @@ fn a_long_extent_is_cut(rt: HostRuntime) -> Result<(), Fail> {
     assert_eq!(rt; extent.nth_word(Effect::Allocates, 1), Some(0x8000_1C3F));
     assert_eq!(rt; extent.nth_word(Effect::Allocates, 2), None);
     assert_eq!(rt; extent.nth_word(Effect::Allocates, usize::MAX), None);
+    Ok(())
+}
+
+#[test]
+fn the_words_of_an_extent_come_in_order(rt: HostRuntime) -> Result<(), Fail> {
+    let mut words = Extent::new(0, 40_000)?.words(Effect::Allocates);
+    assert_eq!(rt; words.next(), Some(0x7FFF));
+    assert_eq!(rt; words.next(), Some(0x8000_1C3F));
+    assert_eq!(rt; words.next(), None);
+    assert_eq!(rt; words.next(), None);
+    assert_eq!(rt;
+        Extent::new(0, 67_108_864)?.words(Effect::Frees).count(),
+        2048
+    );
     Ok(())
 }
 

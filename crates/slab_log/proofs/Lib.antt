@@ -1,6 +1,7 @@
 pub mod Same
 pub mod RoundTrip
 pub mod Written
+pub mod Given
 pub mod Filled
 pub mod Steps
 pub mod Shortest

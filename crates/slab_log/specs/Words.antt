@@ -1,5 +1,5 @@
 -- The words of a log: what a word says, and how entries and extents are written.
-use Rattle.std.specs.Prelude.{ℕ, zero, suc, ◌+◌, ◌-◌, ◌*◌, ◌/◌, ◌^◌, cond, List, [], ◌∷◌, Ok, Err, Result, ◌==◌, nat_le}
+use Rattle.std.specs.Prelude.{ℕ, zero, suc, ◌+◌, ◌-◌, ◌*◌, ◌/◌, ◌^◌, cond, List, [], ◌∷◌, drop, Ok, Err, Result, ◌==◌, nat_le}
 use Rattle.slab_log.specs.Limits.{longest_run}
 use Rattle.slab_log.specs.Fields.{bits, offset_low, run_some, run_most}
 use Rattle.slab_log.specs.declared.fault.Fault.{Fault}
@@ -10,6 +10,7 @@ use Rattle.slab_log.specs.declared.entry.Span.{Span}
 use Rattle.slab_log.specs.declared.entry.DebugWord.{DebugWord}
 use Rattle.slab_log.specs.declared.entry.Entry.{Entry}
 use Rattle.slab_log.specs.declared.entry.Entry.TheVariants.{Allocate, Free, Debug}
+use Rattle.slab_log.specs.declared.words.EntryWords.{EntryWords}
 
 abbrev pub span_of : ℕ → Span
 span_of w = record { offset = bits 62 16 w; run = bits 14 0 w + 1; low = offset_low w; some = run_some w; most = run_most w }
@@ -53,3 +54,7 @@ cut (suc n) effect start len =
 -- the words of an extent
 abbrev pub words_of : Effect → ℕ → ℕ → List ℕ
 words_of effect start len = cut (entries len) effect start len
+
+-- those that an iterator over them has not given yet
+abbrev pub left : EntryWords → List ℕ
+left it = drop it.given (words_of it.effect it.extent.start it.extent.length)

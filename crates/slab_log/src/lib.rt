@@ -10,6 +10,7 @@ mod number;
 mod reading;
 mod refusal;
 mod size;
+mod words;
 mod writing;
 
 pub use entry::{DebugWord, Effect, Entry, Span};
@@ -20,7 +21,7 @@ pub use laws::{
     condensed_log_replays, equal_condensed_logs_have_equal_sectors, grant_replays,
     reading_undoes_writing, return_replays, worked_cases_hold,
 };
-pub use reading::decode;
 pub use refusal::Refusal;
 pub use size::Size;
+pub use words::EntryWords;
 pub use writing::encode;

@@ -5,7 +5,7 @@ ghost use Rattle.slab_log.specs.Numbers.{number_of};
 use crate::refusal::Refusal;
 
 impl Refusal {
-    // The number by which users know the refusal.
+    // The number by which users know the refusal. It is a method and no conversion: what a refusal carries is not in it.
     pub fn number(self) -> u8
         ensures { result ≡ number_of self }
     {

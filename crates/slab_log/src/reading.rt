@@ -6,15 +6,19 @@ use crate::entry::{DebugWord, Entry, Span};
 use crate::fault::Fault;
 
 // What a word says, or the fault that its two highest bits are both set.
-pub fn decode(word: u64) -> Result<Entry, Fault>
-    ensures { result ≡ read word }
-{
-    if word >> 63 == 0 {
-        Ok(one_word_entry(word))
-    } else if (word >> 62) % 2 == 0 {
-        Ok(Entry::Debug(debug_fields(word)))
-    } else {
-        Err(Fault::Kind)
+impl TryFrom<u64> for Entry {
+    type Error = Fault;
+
+    ghost try_from_gives = { λ word result. result ≡ read word };
+
+    fn try_from(word: u64) -> Result<Entry, Fault> {
+        if word >> 63 == 0 {
+            Ok(one_word_entry(word))
+        } else if (word >> 62) % 2 == 0 {
+            Ok(Entry::Debug(debug_fields(word)))
+        } else {
+            Err(Fault::Kind)
+        }
     }
 }
 

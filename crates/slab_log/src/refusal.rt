@@ -1,34 +1,49 @@
 // Every refusal of the product.
 use crate::fault::Stop;
+use thiserror::Error;
 
-#[derive(Clone, Copy, PartialEq, Eq, Debug)]
+#[derive(Clone, Copy, PartialEq, Eq, Debug, Error)]
 pub enum Refusal {
-    // 1: a size of 0, or above the limit.
+    // 1
+    #[error("the size is 0, or above 67108864 sectors")]
     BadSize,
-    // 2: an extent of length 0, or past the limit.
+    // 2
+    #[error("the extent has no sector, or ends past sector 67108864")]
     BadExtent,
-    // 3: the slab is stopped by this fault.
+    // 3
+    #[error("the slab is stopped by the {0}")]
     Stopped(Stop),
-    // 4: a want of 0.
+    // 4
+    #[error("no sector is wanted")]
     NoWant,
-    // 5: the extent ends beyond the slab.
+    // 5
+    #[error("the extent ends beyond the slab")]
     BeyondSlab,
-    // 6: no free extent is long enough.
+    // 6
+    #[error("no free extent is long enough")]
     NoSpace,
-    // 7: a sector of the extent is free already.
+    // 7
+    #[error("a sector of the extent is free already")]
     AlreadyFree,
-    // 8: too many free extents.
+    // 8
+    #[error("there are too many free extents")]
     TooManyExtents,
-    // 9: the log has too few places left for the entries needed.
+    // 9: the places left, and the entries needed.
+    #[error("the log has {places} places left, and needs {needed}")]
     LogFull { places: usize, needed: usize },
-    // 9: the store is full.
+    // 9
+    #[error("the log is full")]
     StoreFull,
-    // 10: the area is too short.
+    // 10
+    #[error("the area is too short")]
     AreaShort,
-    // 10: the store has no such word.
+    // 10
+    #[error("the log has no such word")]
     NoWord,
-    // 11: the area is against the header rule.
+    // 11
+    #[error("the header is against the rule")]
     BadHeader,
-    // 12: the script line is against its form.
+    // 12
+    #[error("the line is against its form")]
     BadLine,
 }

@@ -1,10 +1,12 @@
 // Writing words.
 ghost use Rattle.std.specs.Prelude.{◌≡◌, ◌*◌, ◌^◌};
 ghost use Rattle.std.specs.List.{slice_get};
-ghost use Rattle.slab_log.specs.Words.{effect_bit, word_of, entries, words_of};
+ghost use Rattle.std.specs.Iterator.{YieldsFirst, item_count};
+ghost use Rattle.slab_log.specs.Words.{effect_bit, word_of, entries, words_of, left};
 
 use crate::entry::{Effect, Span};
 use crate::extent::Extent;
+use crate::words::EntryWords;
 
 // The most sectors of one entry.
 const LONGEST_RUN: u64 = 32_768;
@@ -49,5 +51,30 @@ impl Extent {
             run: (self.length - done).min(LONGEST_RUN),
         };
         Some(encode(effect, span))
+    }
+
+    // The words of its entries, in order.
+    pub fn words(self, effect: Effect) -> EntryWords
+        ensures { left result ≡ words_of effect self.start self.length }
+    {
+        EntryWords {
+            extent: self,
+            effect,
+            given: 0,
+        }
+    }
+}
+
+impl Iterator for EntryWords {
+    type Item = u64;
+
+    ghost next_gives = { YieldsFirst left };
+
+    ghost remaining = { item_count left };
+
+    fn next(&mut self) -> Option<u64> {
+        let word = self.extent.nth_word(self.effect, self.given)?;
+        self.given += 1;
+        Some(word)
     }
 }

@@ -16,10 +16,7 @@ pub fn add_extent<S: LogStore>(store: &mut S, effect: Effect, extent: Extent) ->
     if places < needed {
         return Err(Refusal::LogFull { places, needed });
     }
-    for n in 0..needed {
-        let Some(word) = extent.nth_word(effect, n) else {
-            unreachable();
-        };
+    for word in extent.words(effect) {
         let Ok(()) = store.add(word) else {
             unreachable();
         };

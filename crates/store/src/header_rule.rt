@@ -4,7 +4,7 @@ ghost use Rattle.store.specs.Bytes.{SameOutside};
 ghost use Rattle.store.specs.Image.{fits_test, header_bytes};
 ghost use Rattle.store.specs.Changes.{Checks, IsHeader};
 
-use crate::bytes::{get32, put32};
+use crate::bytes::{get, put};
 use slab_log::Refusal;
 
 // How many bytes the header takes.
@@ -40,10 +40,10 @@ fn read_header(area: &[u8]) -> Header
     ensures { IsHeader area.now result }
 {
     Header {
-        count: get32(area, COUNT_AT),
-        capacity: get32(area, CAPACITY_AT),
-        first: get32(area, FIRST_AT),
-        end: get32(area, END_AT),
+        count: u32::from_le_bytes(get(area, COUNT_AT)),
+        capacity: u32::from_le_bytes(get(area, CAPACITY_AT)),
+        first: u32::from_le_bytes(get(area, FIRST_AT)),
+        end: u32::from_le_bytes(get(area, END_AT)),
     }
 }
 
@@ -52,10 +52,10 @@ pub(crate) fn write_header(area: &mut [u8], header: Header)
     ensures written { IsHeader area.new header }
     ensures others { SameOutside area.old area.new 0 header_bytes }
 {
-    put32(area, COUNT_AT, header.count);
-    put32(area, CAPACITY_AT, header.capacity);
-    put32(area, FIRST_AT, header.first);
-    put32(area, END_AT, header.end);
+    put(area, COUNT_AT, header.count.to_le_bytes());
+    put(area, CAPACITY_AT, header.capacity.to_le_bytes());
+    put(area, FIRST_AT, header.first.to_le_bytes());
+    put(area, END_AT, header.end.to_le_bytes());
 }
 
 // Whether the header's numbers fit one another and an area of so many bytes.

@@ -5,26 +5,20 @@ ghost use Rattle.store.specs.Bytes.{le64, SameOutside};
 ghost use Rattle.store.specs.Image.{words_of, capacity_of, count_field};
 ghost use Rattle.store.specs.Changes.{AddChanges, EmptyChanges, NotYetAdded};
 
-use crate::bytes::{get64, put32, put64};
+use crate::bytes::{get, put};
 use crate::header_rule::{COUNT_AT, WORD_BYTES, check};
 use slab_log::Refusal;
 
 pub(crate) fn count_of(area: &[u8]) -> usize
     ensures { result ≡ length (words_of area.now) }
 {
-    match check(area) {
-        Ok(header) => header.count as usize,
-        Err(_) => 0,
-    }
+    check(area).map_or(0, |header| header.count as usize)
 }
 
 pub(crate) fn capacity_of(area: &[u8]) -> usize
     ensures { result ≡ capacity_of area.now }
 {
-    match check(area) {
-        Ok(header) => header.capacity as usize,
-        Err(_) => 0,
-    }
+    check(area).map_or(0, |header| header.capacity as usize)
 }
 
 pub(crate) fn word_of(area: &[u8], i: usize) -> Result<u64, Refusal>
@@ -36,7 +30,8 @@ pub(crate) fn word_of(area: &[u8], i: usize) -> Result<u64, Refusal>
     if i >= header.count as usize {
         return Err(Refusal::NoWord);
     }
-    Ok(get64(area, header.first as usize + WORD_BYTES * i))
+    let word = get(area, header.first as usize + WORD_BYTES * i);
+    Ok(u64::from_le_bytes(word))
 }
 
 // The first step of an addition: the word's bytes. The image still has the words that it had.
@@ -46,7 +41,7 @@ fn write_word(area: &mut [u8], place: usize, w: u64)
     ensures others { SameOutside area.old area.new place 8 }
     ensures unseen { NotYetAdded area.old area.new place }
 {
-    put64(area, place, w);
+    put(area, place, w.to_le_bytes());
 }
 
 // The second step of an addition: the count, which makes the new word one of the image.
@@ -55,7 +50,7 @@ fn write_count(area: &mut [u8], n: u32)
     ensures count { count_field area.new ≡ n }
     ensures others { SameOutside area.old area.new 0 4 }
 {
-    put32(area, COUNT_AT, n);
+    put(area, COUNT_AT, n.to_le_bytes());
 }
 
 pub(crate) fn add_to(area: &mut [u8], w: u64) -> Result<(), Refusal>

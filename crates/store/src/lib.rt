@@ -9,6 +9,7 @@ mod image;
 mod layout;
 mod log_store;
 mod own;
+mod words;
 
 pub use extents::add_extent;
 pub use formatting::format;
@@ -16,3 +17,4 @@ pub use header_rule::{HEADER_BYTES, Header, check};
 pub use image::ImageStore;
 pub use log_store::LogStore;
 pub use own::{OwnStore, PLACES};
+pub use words::Words;

@@ -1,9 +1,10 @@
 // A store that holds its words itself, in an array of its own.
-ghost use Rattle.std.specs.Prelude.{◌≡◌, ◌≤◌, []};
+ghost use Rattle.std.specs.Prelude.{◌≡◌, ◌≤◌, [], length};
 ghost use Rattle.std.proofs.Common.{lit<};
-ghost use Rattle.store.specs.Own.{own_places, own_words, own_bounded};
+ghost use Rattle.store.specs.Own.{own_places};
 
 use crate::log_store::LogStore;
+use arrayvec::ArrayVec;
 use slab_log::Refusal;
 
 // How many words an own store holds at most.
@@ -11,19 +12,17 @@ pub const PLACES: usize = 4096;
 
 #[derive(Drop)]
 pub struct OwnStore {
-    places: [u64; PLACES],
-    count: usize,
-    ghost within: { count ≤ own_places },
+    words: ArrayVec<u64, PLACES>,
+    ghost within: { length words.items ≤ own_places },
 }
 
 impl OwnStore {
     // A store with no words.
     pub fn new() -> OwnStore
-        ensures { own_words result.count result.places ≡ [] }
+        ensures { result.words.items ≡ [] }
     {
         OwnStore {
-            places: [0; PLACES],
-            count: 0,
+            words: ArrayVec::new(),
         }
     }
 }
@@ -31,14 +30,14 @@ impl OwnStore {
 impl LogStore for OwnStore {
     ghost capacity = { λ _. own_places };
 
-    ghost words = { λ s. own_words s.count s.places };
+    ghost words = { λ s. s.words.items };
 
-    ghost bounded = { λ s. own_bounded s.count s.places s.within };
+    ghost bounded = { λ s. s.within };
 
     ghost fits = { λ _. lit< tt };
 
     fn count(&self) -> usize {
-        self.count
+        self.words.len()
     }
 
     fn capacity(&self) -> usize {
@@ -46,23 +45,14 @@ impl LogStore for OwnStore {
     }
 
     fn word(&self, i: usize) -> Result<u64, Refusal> {
-        if i < self.count {
-            Ok(self.places[i])
-        } else {
-            Err(Refusal::NoWord)
-        }
+        self.words.get(i).copied().ok_or(Refusal::NoWord)
     }
 
     fn add(&mut self, w: u64) -> Result<(), Refusal> {
-        if self.count == PLACES {
-            return Err(Refusal::StoreFull);
-        }
-        self.places[self.count] = w;
-        self.count += 1;
-        Ok(())
+        self.words.try_push(w).map_err(|_| Refusal::StoreFull)
     }
 
     fn empty(&mut self) {
-        self.count = 0;
+        self.words.clear();
     }
 }

@@ -10,3 +10,5 @@ mod image_tests;
 mod own_tests;
 #[cfg(test)]
 mod refusals;
+#[cfg(test)]
+mod words_tests;

@@ -3,8 +3,5 @@ use slab_log::Refusal;
 
 // 0 where the call was not refused.
 pub(crate) fn refusal_number<T: Drop>(answer: Result<T, Refusal>) -> u8 {
-    match answer {
-        Ok(_) => 0,
-        Err(refusal) => refusal.number(),
-    }
+    answer.err().map_or(0, Refusal::number)
 }

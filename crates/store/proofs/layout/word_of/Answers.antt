@@ -1,7 +1,8 @@
 -- The word that is read is that of the list.
-use Rattle.std.proofs.Common.{◌+◌, ◌*◌, ◌<◌, refl, ap, ◌∙◌, arith}
+use Rattle.std.proofs.Common.{sym, ◌+◌, ◌*◌, ◌<◌, refl, ap, ◌∙◌, arith}
 use Rattle.store.specs.Bytes.{le64}
 use Rattle.store.specs.Image.{count_field}
+use Rattle.store.proofs.Digits.{le_eight}
 use Rattle.store.proofs.Images.{count_met, word_met}
 use Rattle.store.proofs.layout.word_of.Goals as goal
 
@@ -16,5 +17,5 @@ returns c =
     let checked = c.in-Ok.ensures in
     let below : c.args.i < count_field area = omega (arith, checked.1.count) in (
       omega (arith, count_met area checked.0),
-      c.get64.ensures ∙ ap (λ first. le64 area (first + 8 * c.args.i)) checked.1.first ∙ word_met area checked.0 c.args.i below,
+      c.from_le_bytes.ensures ∙ sym (le_eight c.get-word.result) ∙ c.get-word.ensures ∙ ap (λ first. le64 area (first + 8 * c.args.i)) checked.1.first ∙ word_met area checked.0 c.args.i below,
     )

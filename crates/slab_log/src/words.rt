@@ -1,0 +1,12 @@
+// The words of an extent, one after the other.
+use crate::entry::Effect;
+use crate::extent::Extent;
+
+// What is left of the words of an extent's entries.
+#[derive(Clone, Copy)]
+pub struct EntryWords {
+    pub(crate) extent: Extent,
+    pub(crate) effect: Effect,
+    // How many words have been given.
+    pub(crate) given: usize,
+}
