@@ -1,36 +1,42 @@
--- Replay, word by word: what the words from a place on do.
-use Rattle.std.proofs.Common.{◌≡◌, ℕ, zero, suc, ◌+◌, ◌<◌, ◌≤◌, List, [], ◌∷◌, length, get_or, drop, Ok, Err, sym, refl, ap, ◌∙◌, add-one, arith, drop-cons}
-use Rattle.slab_log.specs.Sectors.{Sectors}
+-- Replay, word by word: what the words that are left do.
+use Rattle.std.proofs.Common.{◌≡◌, ℕ, ◌+◌, List, [], ◌∷◌, Ok, Err, sym, refl, ap, ◌∙◌}
+use Rattle.slab_log.specs.Sectors.{Sectors, whole}
 use Rattle.slab_log.specs.Words.{read}
 use Rattle.slab_log.specs.Replay.{take_word, replay_from, replay}
 use Rattle.slab_log.specs.declared.fault.Fault.{Fault}
 use Rattle.space.specs.Free.{sectors_of, free_in}
 use Rattle.space.specs.declared.space.Space.{Space}
 
-drop_past : (n : ℕ) (xs : List ℕ) → length xs ≤ n → drop n xs ≡ []
-drop_past zero [] h = refl
-drop_past (suc n) [] h = refl
-drop_past zero (x ∷ xs) h = absurd (omega arith)
-drop_past (suc n) (x ∷ xs) h = drop_past n xs (omega arith)
+module _ (n place : ℕ) (free : Sectors) (left : List ℕ) (w : ℕ) (rest : List ℕ) (next : left ≡ w ∷ rest) where
+  word_done : (after : Sectors) → take_word n free (read w) ≡ Ok after → replay_from n place free left ≡ replay_from n (place + 1) after rest
+  word_done after e = rw (next, e, replay_from)
 
-module _ (n place : ℕ) (free : Sectors) (ws : List ℕ) (below : place < length ws) where
-  pub word_done : (after : Sectors) → take_word n free (read (get_or ws place 0)) ≡ Ok after →
-      replay_from n place free (drop place ws) ≡ replay_from n (place + 1) after (drop (place + 1) ws)
-  word_done after e =
-      let cut : drop place ws ≡ get_or ws place 0 ∷ drop (place + 1) ws = rw (add-one) (drop-cons ws place 0 below) in
-      rw (cut, e, replay_from)
-
-  pub word_fails : (f : Fault) → take_word n free (read (get_or ws place 0)) ≡ Err f → replay_from n place free (drop place ws) ≡ Err (record { fault = f; place = place })
-  word_fails f e =
-      let cut : drop place ws ≡ get_or ws place 0 ∷ drop (place + 1) ws = rw (add-one) (drop-cons ws place 0 below) in
-      rw (cut, e, replay_from)
+  word_fails : (f : Fault) → take_word n free (read w) ≡ Err f → replay_from n place free left ≡ Err (record { fault = f; place = place })
+  word_fails f e = rw (next, e, replay_from)
 
 -- how far a replay has come, from a space with all sectors free
-pub record Sofar (words : List ℕ) (new : Space) (place : ℕ) (space : Space) : Type 0 where
-  pub rest : replay_from (sectors_of space) place (free_in space) (drop place words) ≡ replay (sectors_of new) words
+pub record Sofar (words : List ℕ) (new : Space) (place : ℕ) (left : List ℕ) (space : Space) : Type 0 where
+  pub rest : replay_from (sectors_of space) place (free_in space) left ≡ replay (sectors_of new) words
   pub size : space.size ≡ new.size
 
-pub all_done : (words : List ℕ) (new : Space) (place : ℕ) (space : Space) → Sofar words new place space → length words ≤ place →
-    replay (sectors_of new) words ≡ Ok (free_in space)
-all_done words new place space sofar past =
-    sym sofar.rest ∙ ap (replay_from (sectors_of space) place (free_in space)) (drop_past place words past)
+pub begun : (words : List ℕ) (new : Space) (place : ℕ) (left : List ℕ) → place ≡ 0 → left ≡ words → free_in new ≡ whole (sectors_of new) → Sofar words new place left new
+begun words new place left first all free = record { rest = rw (first, all, free) refl; size = refl }
+
+-- one word more has been taken
+pub one_done : (words : List ℕ) (new : Space) (place next : ℕ) (left rest : List ℕ) (space after : Space) (w : ℕ) →
+    Sofar words new place left space → left ≡ w ∷ rest → next ≡ place + 1 →
+    take_word (sectors_of space) (free_in space) (read w) ≡ Ok (free_in after) → after.size ≡ space.size → Sofar words new next rest after
+one_done words new place next left rest space after w sofar cut further took size =
+    record {
+      rest = rw (further, ap (λ z. z.sectors) size) (sym (word_done (sectors_of space) place (free_in space) left w rest cut (free_in after) took) ∙ sofar.rest);
+      size = size ∙ sofar.size;
+    }
+
+-- or the next has a fault
+pub one_fails : (words : List ℕ) (new : Space) (place : ℕ) (left rest : List ℕ) (space : Space) (w : ℕ) (f : Fault) →
+    Sofar words new place left space → left ≡ w ∷ rest → take_word (sectors_of space) (free_in space) (read w) ≡ Err f →
+    replay (sectors_of new) words ≡ Err (record { fault = f; place = place })
+one_fails words new place left rest space w f sofar cut took = sym sofar.rest ∙ word_fails (sectors_of space) place (free_in space) left w rest cut f took
+
+pub all_done : (words : List ℕ) (new : Space) (place : ℕ) (left : List ℕ) (space : Space) → left ≡ [] → Sofar words new place left space → replay (sectors_of new) words ≡ Ok (free_in space)
+all_done words new place left space none sofar = sym sofar.rest ∙ ap (replay_from (sectors_of space) place (free_in space)) none

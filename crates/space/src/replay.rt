@@ -6,8 +6,8 @@ ghost use Rattle.slab_log.specs.Replay.{apply, take_word};
 ghost use Rattle.space.specs.Free.{sectors_of, free_in, Changes, Replays};
 
 use crate::space::Space;
-use slab_log::{Entry, Fault, Size, Stop, decode};
-use store::LogStore;
+use slab_log::{Entry, Fault, Size, Stop};
+use store::{LogStore, Words};
 use table::{LengthKey, LengthTable, StartTable};
 
 impl Space {
@@ -44,7 +44,7 @@ impl Space {
     pub fn take_word(&mut self, word: u64) -> Result<(), Fault>
         ensures { Changes self.old (take_word (sectors_of self.old) (free_in self.old) (read word)) self.new result }
     {
-        let entry = decode(word)?;
+        let entry = Entry::try_from(word)?;
         self.apply(entry)
     }
 
@@ -53,10 +53,7 @@ impl Space {
         ensures { Replays size (S.words store.now) result }
     {
         let mut space = Space::new(size);
-        for place in 0..store.count() {
-            let Ok(word) = store.word(place) else {
-                unreachable();
-            };
+        for (place, word) in Words::of(store).enumerate() {
             if let Err(fault) = space.take_word(word) {
                 return Err(Stop { fault, place });
             }
