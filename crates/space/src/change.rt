@@ -6,6 +6,7 @@ ghost use Rattle.table.specs.StartTable.{pairs as starts};
 ghost use Rattle.space.specs.Free.{sectors_of, free_in, Changes};
 ghost use Rattle.space.specs.Tables.{Moved, Holds, LeftEdge, RightEdge};
 
+use crate::run::SectorRun;
 use crate::space::Space;
 use slab_log::{Extent, Fault};
 use table::Entry;
@@ -18,74 +19,67 @@ impl Space {
     pub fn grant(&mut self, extent: Extent) -> Result<(), Fault>
         ensures { Changes self.old (granting (sectors_of self.old) (free_in self.old) extent.start extent.length) self.new result }
     {
-        self.grant_run(extent.start, extent.length)
+        self.grant_run(extent.into())
     }
 
     // Makes the sectors of an extent in use free again.
     pub fn give_back(&mut self, extent: Extent) -> Result<(), Fault>
         ensures { Changes self.old (returning (sectors_of self.old) (free_in self.old) extent.start extent.length) self.new result }
     {
-        self.return_run(extent.start, extent.length)
+        self.return_run(extent.into())
     }
 
-    pub(crate) fn grant_run(&mut self, start: u64, len: u64) -> Result<(), Fault>
-        requires some { 1 ≤ len }
-        requires sums { start + len < 2 ^ 64 }
-        ensures { Changes self.old (granting (sectors_of self.old) (free_in self.old) start len) self.new result }
+    pub(crate) fn grant_run(&mut self, run: SectorRun) -> Result<(), Fault>
+        ensures { Changes self.old (granting (sectors_of self.old) (free_in self.old) run.start run.len) self.new result }
     {
-        if start + len > self.size.sectors {
+        if run.start + run.len > self.size.sectors {
             return Err(Fault::Bounds);
         }
-        let Some(holder) = self.holder(start, len) else {
+        let Some(holder) = self.holder(run) else {
             return Err(Fault::Taken);
         };
-        let inside = (holder.key < start) & (start + len < holder.key + holder.value);
+        let inside = (holder.key < run.start) & (run.start + run.len < holder.key + holder.value);
         if inside & (self.by_start.len() >= MOST_EXTENTS) {
             return Err(Fault::Crowded);
         }
-        self.cut(holder, start, len);
+        self.cut(holder, run);
         Ok(())
     }
 
     // The free extent that has all sectors of a run, which lies within the slab.
-    fn holder(&self, start: u64, len: u64) -> Option<Entry<u64, u64>>
-        requires some { 1 ≤ len }
-        requires within { start + len ≤ sectors_of self.now }
-        ensures { Holds self.now start len result }
+    fn holder(&self, run: SectorRun) -> Option<Entry<u64, u64>>
+        requires { run.start + run.len ≤ sectors_of self.now }
+        ensures { Holds self.now run.start run.len result }
     {
-        let Some(holder) = self.by_start.highest_before(start + 1) else {
-            return None;
-        };
-        if holder.key + holder.value < start + len {
+        let holder = self.by_start.highest_before(run.start + 1)?;
+        if holder.key + holder.value < run.start + run.len {
             return None;
         }
         Some(holder)
     }
 
     // Grants a run of a free extent.
-    fn cut(&mut self, holder: Entry<u64, u64>, start: u64, len: u64)
-        requires some { 1 ≤ len }
-        requires held { Holds self.old start len (Some holder) }
-        requires room { holder.key < start → start + len < holder.key + holder.value → length (starts self.old.by_start) < 1024 }
-        ensures { Moved self.old self.new (grant (free_in self.old) start len) }
+    fn cut(&mut self, holder: Entry<u64, u64>, run: SectorRun)
+        requires held { Holds self.old run.start run.len (Some holder) }
+        requires room { holder.key < run.start → run.start + run.len < holder.key + holder.value → length (starts self.old.by_start) < 1024 }
+        ensures { Moved self.old self.new (grant (free_in self.old) run.start run.len) }
     {
-        let end = start + len;
+        let end = run.start + run.len;
         let holder_end = holder.key + holder.value;
         self.take_out(holder.key, holder.value);
-        self.put_end(holder.key, start - holder.key);
+        self.put_end(holder.key, run.start - holder.key);
         self.put_end(end, holder_end - end);
     }
 
-    pub(crate) fn return_run(&mut self, start: u64, len: u64) -> Result<(), Fault>
-        requires some { 1 ≤ len }
-        requires sums { start + len < 2 ^ 64 }
-        ensures { Changes self.old (returning (sectors_of self.old) (free_in self.old) start len) self.new result }
+    pub(crate) fn return_run(&mut self, run: SectorRun) -> Result<(), Fault>
+        ensures { Changes self.old (returning (sectors_of self.old) (free_in self.old) run.start run.len) self.new result }
     {
-        let end = start + len;
+        let start = run.start;
+        let end = start + run.len;
         if end > self.size.sectors {
             return Err(Fault::Bounds);
         }
-        if self.reaches(start, len) {
+        if self.reaches(run) {
             return Err(Fault::Again);
         }
         let first = self.left_edge(start);
@@ -96,19 +90,20 @@ impl Space {
         }
         self.take_end(first, start - first);
         self.take_end(end, last - end);
-        self.put_in(first, last - first);
+        self.put_in(SectorRun {
+            start: first,
+            len: last - first,
+        });
         Ok(())
     }
 
     // Whether a sector of a run is free.
-    pub(crate) fn reaches(&self, start: u64, len: u64) -> bool
-        requires some { 1 ≤ len }
-        requires sums { start + len < 2 ^ 64 }
-        ensures { result ≡ meets (free_in self.now) start len }
+    pub(crate) fn reaches(&self, run: SectorRun) -> bool
+        ensures { result ≡ meets (free_in self.now) run.start run.len }
     {
-        match self.by_start.highest_before(start + len) {
+        match self.by_start.highest_before(run.start + run.len) {
             None => false,
-            Some(e) => start < e.key + e.value,
+            Some(e) => run.start < e.key + e.value,
         }
     }
 
@@ -117,14 +112,8 @@ impl Space {
         ensures { LeftEdge (starts self.now.by_start) start result }
     {
         match self.by_start.highest_before(start) {
-            None => start,
-            Some(e) => {
-                if e.key + e.value == start {
-                    e.key
-                } else {
-                    start
-                }
-            }
+            Some(e) if e.key + e.value == start => e.key,
+            _ => start,
         }
     }
 

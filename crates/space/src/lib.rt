@@ -5,6 +5,7 @@ mod change;
 mod condensed;
 mod questions;
 mod replay;
+mod run;
 mod space;
 mod tables;
 mod used;

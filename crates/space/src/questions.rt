@@ -33,48 +33,39 @@ impl Space {
     pub fn longest(&self) -> u64
         ensures { Longest (free_in self.now) result }
     {
-        match self.by_length.last() {
-            None => 0,
-            Some(e) => e.key.len,
-        }
+        self.by_length.last().map_or(0, |e| e.key.len)
     }
 
     // The shortest free extent with at least so many sectors, and of equally short ones the lowest.
     pub fn best_fit(&self, want: u64) -> Option<Extent>
         ensures { Fits (free_in self.now) want result }
     {
-        match self.by_length.lowest_from(LengthKey {
+        let fit = self.by_length.lowest_from(LengthKey {
             len: want,
             start: 0,
-        }) {
-            None => None,
-            Some(e) => {
-                let start = e.key.start;
-                let length = e.key.len;
-                Some(Extent { start, length })
-            }
-        }
+        })?;
+        Some(Extent {
+            start: fit.key.start,
+            length: fit.key.len,
+        })
     }
 
     // The lowest free extent that begins at or after a sector.
     pub fn next(&self, sector: u64) -> Option<Extent>
         ensures { Follows (free_in self.now) sector result }
     {
-        match self.by_start.lowest_from(sector) {
-            None => None,
-            Some(e) => {
-                let start = e.key;
-                let length = e.value;
-                Some(Extent { start, length })
-            }
-        }
+        let next = self.by_start.lowest_from(sector)?;
+        Some(Extent {
+            start: next.key,
+            length: next.value,
+        })
     }
 
     // Whether a sector of the extent is free.
     pub fn has_free(&self, extent: Extent) -> bool
         ensures { result ≡ meets (free_in self.now) extent.start extent.length }
     {
-        self.reaches(extent.start, extent.length)
+        self.reaches(extent.into())
     }
 
     // How many free extents there would be once the extent is given back; nothing where it cannot be, since it ends beyond
@@ -87,7 +78,7 @@ impl Space {
         if end > self.size.sectors {
             return None;
         }
-        if self.reaches(start, extent.length) {
+        if self.reaches(extent.into()) {
             return None;
         }
         // Each neighbour that is free is one extent fewer.

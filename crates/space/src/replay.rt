@@ -34,8 +34,8 @@ impl Space {
         ensures { Changes self.old (apply (sectors_of self.old) (free_in self.old) entry) self.new result }
     {
         match entry {
-            Entry::Allocate(span) => self.grant_run(span.offset, span.run),
-            Entry::Free(span) => self.return_run(span.offset, span.run),
+            Entry::Allocate(span) => self.grant_run(span.into()),
+            Entry::Free(span) => self.return_run(span.into()),
             Entry::Debug(_) => Ok(()),
         }
     }

@@ -6,6 +6,7 @@ ghost use Rattle.space.specs.Extents.{in_list};
 ghost use Rattle.space.specs.Free.{free_in, sectors_of};
 ghost use Rattle.space.specs.Tables.{Clear, Moved};
 
+use crate::run::SectorRun;
 use crate::space::Space;
 use table::LengthKey;
 
@@ -22,14 +23,14 @@ impl Space {
     }
 
     // Puts an extent in that has no free sector in it or beside it.
-    pub(crate) fn put_in(&mut self, start: u64, len: u64)
-        requires some { 1 ≤ len }
-        requires within { start + len ≤ sectors_of self.old }
-        requires clear { Clear (free_in self.old) start len }
+    pub(crate) fn put_in(&mut self, run: SectorRun)
+        requires within { run.start + run.len ≤ sectors_of self.old }
+        requires clear { Clear (free_in self.old) run.start run.len }
         requires few { length (starts self.old.by_start) < 1024 }
-        ensures moved { Moved self.old self.new (give_back (free_in self.old) start len) }
+        ensures moved { Moved self.old self.new (give_back (free_in self.old) run.start run.len) }
         ensures more { length (starts self.new.by_start) ≡ length (starts self.old.by_start) + 1 }
     {
+        let SectorRun { start, len } = run;
         let _ = self.by_start.insert(start, len);
         let _ = self.by_length.insert(LengthKey { len, start });
         self.free += len;
@@ -44,7 +45,7 @@ impl Space {
         ensures more { length (starts self.new.by_start) ≡ length (starts self.old.by_start) + min len 1 }
     {
         if len > 0 {
-            self.put_in(start, len);
+            self.put_in(SectorRun { start, len });
         }
     }
 

@@ -22,10 +22,10 @@ put_end-requires c =
     let now = c.args.self.now in
     let k = c.args.holder.key in
     let held = c.requires.held in
-    let clear = front_clear _ _ (spaced_in now) k c.args.holder.value held.0 c.args.start c.args.len c.requires.some held.1 held.2 in
+    let clear = front_clear _ _ (spaced_in now) k c.args.holder.value held.0 c.args.run.start c.args.run.len c.args.run.some held.1 held.2 in
     record {
       within = omega (arith, (lies_in now _ _ held.0).within, ap (λ z. z.sectors) c.take_out.ensures.moved.size, held.1, held.2);
-      clear = λ one. subst (λ f. Clear f k (c.args.start - k)) (sym c.take_out.ensures.moved.sectors) (clear one);
+      clear = λ one. subst (λ f. Clear f k (c.args.run.start - k)) (sym c.take_out.ensures.moved.sectors) (clear one);
       few = λ one. omega (arith, c.take_out.ensures.fewer, few_in now);
     }
 
@@ -33,15 +33,15 @@ pub put_end-requires-2 : goal.put_end-requires-2
 put_end-requires-2 c =
     let now = c.args.self.now in
     let k = c.args.holder.key in
-    let end = c.args.start + c.args.len in
+    let end = c.args.run.start + c.args.run.len in
     let held = c.requires.held in
-    let clear = back_clear _ _ (spaced_in now) k c.args.holder.value held.0 c.args.start c.args.len c.requires.some held.1 held.2 in
-    let sectors = c.put_end.ensures.moved.sectors ∙ ap (λ f. give_back f k (c.args.start - k)) c.take_out.ensures.moved.sectors in
+    let clear = back_clear _ _ (spaced_in now) k c.args.holder.value held.0 c.args.run.start c.args.run.len c.args.run.some held.1 held.2 in
+    let sectors = c.put_end.ensures.moved.sectors ∙ ap (λ f. give_back f k (c.args.run.start - k)) c.take_out.ensures.moved.sectors in
     record {
       within =
           omega (arith, (lies_in now _ _ held.0).within, held.2, ap (λ z. z.sectors) c.take_out.ensures.moved.size, ap (λ z. z.sectors) c.put_end.ensures.moved.size);
       clear = λ one. subst (λ f. Clear f end ((k + c.args.holder.value) - end)) (sym sectors) (clear one);
-      few = λ one. elim (cases_lt k c.args.start) [
+      few = λ one. elim (cases_lt k c.args.run.start) [
         | inl l ↦ omega (arith, c.put_end.ensures.more, c.take_out.ensures.fewer, c.requires.room l (omega arith))
         | inr l ↦ omega (arith, c.put_end.ensures.more, c.take_out.ensures.fewer, few_in now)
       ];
@@ -51,10 +51,10 @@ pub returns : goal.returns
 returns c =
     let now = c.args.self.now in
     let k = c.args.holder.key in
-    let end = c.args.start + c.args.len in
+    let end = c.args.run.start + c.args.run.len in
     let held = c.requires.held in
-    let is = cut_is _ _ (spaced_in now) k c.args.holder.value held.0 c.args.start c.args.len c.requires.some held.1 held.2 in
-    let sectors = c.put_end.ensures.moved.sectors ∙ ap (λ f. give_back f k (c.args.start - k)) c.take_out.ensures.moved.sectors in
+    let is = cut_is _ _ (spaced_in now) k c.args.holder.value held.0 c.args.run.start c.args.run.len c.args.run.some held.1 held.2 in
+    let sectors = c.put_end.ensures.moved.sectors ∙ ap (λ f. give_back f k (c.args.run.start - k)) c.take_out.ensures.moved.sectors in
     record {
       sectors = c.put_end-2.ensures.moved.sectors ∙ (ap (λ f. give_back f end ((k + c.args.holder.value) - end)) sectors ∙ is);
       size = c.put_end-2.ensures.moved.size ∙ (c.put_end.ensures.moved.size ∙ c.take_out.ensures.moved.size);

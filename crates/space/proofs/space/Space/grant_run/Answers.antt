@@ -22,16 +22,16 @@ returns-then-inside-len c =
     let full = and_parts _ _ c.if-inside-len.true in
     let ends = and_parts _ _ full.0 in
     let more =
-    both_ends _ _ (spaced_in now) _ _ held.0 c.args.start c.args.len c.requires.some held.1 held.2 (ltb-true _ _ ends.0) (ltb-true _ _ ends.1) in
-    let free = all_free _ _ (spaced_in now) _ _ held.0 c.args.start c.args.len c.requires.some held.1 held.2 in
-    let many : most_extents < runs (grant (free_in now) c.args.start c.args.len) (sectors_of now) =
+    both_ends _ _ (spaced_in now) _ _ held.0 c.args.run.start c.args.run.len c.args.run.some held.1 held.2 (ltb-true _ _ ends.0) (ltb-true _ _ ends.1) in
+    let free = all_free _ _ (spaced_in now) _ _ held.0 c.args.run.start c.args.run.len c.args.run.some held.1 held.2 in
+    let many : most_extents < runs (grant (free_in now) c.args.run.start c.args.run.len) (sectors_of now) =
     omega (arith, more, leb-true _ _ full.1, c.len.ensures.counts) in
-    (granted_crowded (sectors_of now) (free_in now) c.args.start c.args.len c.if-start-len.false free many, refl)
+    (granted_crowded (sectors_of now) (free_in now) c.args.run.start c.args.run.len c.if-run-self.false free many, refl)
 
 pub returns : goal.returns
 returns c =
     let now = c.args.self.now in
     let held = c.in-Some.ensures in
     let moved = c.cut.ensures in
-    let free = all_free _ _ (spaced_in now) _ _ held.0 c.args.start c.args.len c.requires.some held.1 held.2 in
-    (granted (sectors_of now) (free_in now) c.args.start c.args.len c.if-start-len.false free (runs_moved now _ _ moved) ∙ ap Ok (sym moved.sectors), moved.size)
+    let free = all_free _ _ (spaced_in now) _ _ held.0 c.args.run.start c.args.run.len c.args.run.some held.1 held.2 in
+    (granted (sectors_of now) (free_in now) c.args.run.start c.args.run.len c.if-run-self.false free (runs_moved now _ _ moved) ∙ ap Ok (sym moved.sectors), moved.size)

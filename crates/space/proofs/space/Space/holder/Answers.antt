@@ -5,25 +5,25 @@ use Rattle.space.proofs.Spaces.{spaced_in, lies_in, previous_in}
 use Rattle.space.proofs.Cutting.{none_holds, short_holds}
 use Rattle.space.proofs.space.Space.holder.Goals as goal
 
-pub returns-in_default : goal.returns-in_default
-returns-in_default c =
-    none_holds _ _ (spaced_in c.args.self.now) c.args.start c.args.len c.requires.some c.requires.within
-    (previous_none _ _ (sym c.highest_before.ensures ∙ c.in_default.is))
+pub returns-in_err-holder : goal.returns-in_err-holder
+returns-in_err-holder c =
+    rw (c.from_residual.ensures) (none_holds _ _ (spaced_in c.args.self.now) c.args.run.start c.args.run.len c.args.run.some c.requires
+    (previous_none _ _ (sym c.highest_before.ensures ∙ c.in_err-holder.was)))
 
 pub overflow_add-holder : goal.overflow_add-holder
 overflow_add-holder c =
     let now = c.args.self.now in
-    let p = previous_in now _ _ c.in-Some.holder c.highest_before.ensures c.in-Some.is in
+    let p = previous_in now _ _ c.in_ok-holder.holder c.highest_before.ensures c.in_ok-holder.was in
     omega (arith, (lies_in now _ _ p.listed).within, now.size.most)
 
-pub returns-then-holder-start : goal.returns-then-holder-start
-returns-then-holder-start c =
+pub returns-then-holder-run : goal.returns-then-holder-run
+returns-then-holder-run c =
     let now = c.args.self.now in
-    let p = previous_in now _ _ c.in-Some.holder c.highest_before.ensures c.in-Some.is in
-    short_holds _ _ (spaced_in now) c.args.start c.args.len c.in-Some.holder c.requires.some c.requires.within p c.if-holder-start.true
+    let p = previous_in now _ _ c.in_ok-holder.holder c.highest_before.ensures c.in_ok-holder.was in
+    short_holds _ _ (spaced_in now) c.args.run.start c.args.run.len c.in_ok-holder.holder c.args.run.some c.requires p c.if-holder-run.true
 
 pub returns : goal.returns
 returns c =
     let now = c.args.self.now in
-    let p = previous_in now _ _ c.in-Some.holder c.highest_before.ensures c.in-Some.is in
-    (p.listed, omega (arith, p.before), c.if-holder-start.false)
+    let p = previous_in now _ _ c.in_ok-holder.holder c.highest_before.ensures c.in_ok-holder.was in
+    (p.listed, omega (arith, p.before), c.if-holder-run.false)

@@ -12,10 +12,10 @@ overflow_add-self c =
 
 pub invariant_of-self : goal.invariant_of-self
 invariant_of-self c =
-    let p = put_both _ _ c.args.start c.args.len _ _ _ _ (held_in c.args.self.now) c.requires.some c.requires.within c.requires.clear c.requires.few _ _ c.insert.ensures c.insert-2.ensures in
+    let p = put_both _ _ c.args.run.start c.args.run.len _ _ _ _ (held_in c.args.self.now) c.args.run.some c.requires.within c.requires.clear c.requires.few _ _ c.insert.ensures c.insert-2.ensures in
     record { spaced = ∣ p.held.spaced ∣₁; twins = p.held.twins; level = p.held.level; counted = p.held.counted }
 
 pub returns : goal.returns
 returns c =
-    let p = put_both _ _ c.args.start c.args.len _ _ _ _ (held_in c.args.self.now) c.requires.some c.requires.within c.requires.clear c.requires.few _ _ c.insert.ensures c.insert-2.ensures in
+    let p = put_both _ _ c.args.run.start c.args.run.len _ _ _ _ (held_in c.args.self.now) c.args.run.some c.requires.within c.requires.clear c.requires.few _ _ c.insert.ensures c.insert-2.ensures in
     record { moved = record { sectors = p.sectors; size = refl }; more = p.more }

@@ -14,14 +14,14 @@ overflow_add-result c =
 
 pub returns-in-None : goal.returns-in-None
 returns-in-None c =
-    sym (nothing_reaches _ _ (spaced_in c.args.self.now) c.args.start c.args.len (previous_none _ _ (sym c.highest_before.ensures ∙ c.in-None.is)))
+    sym (nothing_reaches _ _ (spaced_in c.args.self.now) c.args.run.start c.args.run.len (previous_none _ _ (sym c.highest_before.ensures ∙ c.in-None.is)))
 
 pub returns-in-Some : goal.returns-in-Some
 returns-in-Some c =
     let now = c.args.self.now in
     let e = c.in-Some.e in
     let p = previous_in now _ _ e c.highest_before.ensures c.in-Some.is in
-    elim (cases_lt c.args.start (e.key + e.value)) [
-      | inl l ↦ lt-ltb _ _ l ∙ sym (reached _ _ (spaced_in now) c.args.start c.args.len e c.requires.some p l)
-      | inr l ↦ le-ltb _ _ l ∙ sym (unreached _ _ (spaced_in now) c.args.start c.args.len e p l)
+    elim (cases_lt c.args.run.start (e.key + e.value)) [
+      | inl l ↦ lt-ltb _ _ l ∙ sym (reached _ _ (spaced_in now) c.args.run.start c.args.run.len e c.args.run.some p l)
+      | inr l ↦ le-ltb _ _ l ∙ sym (unreached _ _ (spaced_in now) c.args.run.start c.args.run.len e p l)
     ]
