@@ -1,5 +1,5 @@
 -- Each call keeps the log of a running slab replaying to its free sectors.
-use Rattle.std.proofs.Common.{◌≡◌, ℕ, ◌≤◌, List, length, Ok, Err, Result, arith}
+use Rattle.std.proofs.Common.{◌≡◌, ℕ, ◌≤◌, List, length, Ok, Err, Result, refl, arith}
 use Rattle.slab_log.specs.Limits.{most_sectors}
 use Rattle.slab_log.specs.Sectors.{Within}
 use Rattle.slab_log.specs.declared.extent.Extent.{Extent}
@@ -40,3 +40,12 @@ condense_fits v words r bound (too_many run many same) sound places needed e = l
 condense_fits v words r bound (log_full {log = log} run few all short same) sound places needed e =
     omega (arith, condensed_is_shortest v.size v.free log v.words all (sound run))
 condense_fits v words r bound (condensed run few all fits is) sound places needed e = let z : ◌≡◌ {A = ℕ} 0 1 = cc in omega arith
+
+-- no call changes the size
+pub allocate_size : (v : View) (r : Result Extent Refusal) → (after_allocate v r).size ≡ v.size
+allocate_size v (Ok e) = refl
+allocate_size v (Err e) = refl
+
+pub free_size : (v : View) (e : Extent) (r : Result (Unit {0}) Refusal) → (after_free v e r).size ≡ v.size
+free_size v e (Ok u) = refl
+free_size v e (Err f) = refl

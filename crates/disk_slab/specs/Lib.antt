@@ -1,3 +1,4 @@
+pub mod Loaded
 pub mod View
 pub mod Answers
 pub mod Audits

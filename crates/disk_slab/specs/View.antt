@@ -1,8 +1,9 @@
 -- What can be seen of a live slab.
-use Rattle.std.specs.Prelude.{◌≡◌, ℕ, ◌-◌, false, List, length, Some, None, Ok, Err, Option}
+use Rattle.std.specs.Prelude.{◌≡◌, ℕ, ◌-◌, false, List, length, Some, None, Ok, Err, Option, Result}
 use Rattle.slab_log.specs.Sectors.{Sectors}
 use Rattle.slab_log.specs.Replay.{replay}
 use Rattle.slab_log.specs.declared.fault.Stop.{Stop}
+use Rattle.slab_log.specs.declared.size.Size.{Size}
 use Rattle.store.specs.declared.log_store.LogStore.{Ghosts}
 use Rattle.space.specs.Free.{sectors_of, free_in}
 use Rattle.space.specs.declared.space.Space.{Space}
@@ -35,10 +36,6 @@ running_view size capacity words free = record { size = size; capacity = capacit
 abbrev pub stopped_view : ℕ → ℕ → List ℕ → Stop → View
 stopped_view size capacity words stop = record { size = size; capacity = capacity; words = words; free = λ _. false; fault = Some stop }
 
-abbrev pub unless_stopped : Option Stop → Sectors → Sectors
-unless_stopped None free = free
-unless_stopped (Some _) free = λ _. false
-
 -- the live slab that load gives
 abbrev pub loaded : ℕ → ℕ → List ℕ → View
 loaded size capacity words =
@@ -49,15 +46,9 @@ module _ {S : Type 0} (G : Ghosts S) where
   abbrev pub running : Space → S → View
   running space store = running_view (sectors_of space) (G.capacity store) (G.words store) (free_in space)
 
-  abbrev pub seen : Option Stop → Space → S → View
-  seen fault space store =
-      record {
-        size = sectors_of space;
-        capacity = G.capacity store;
-        words = G.words store;
-        free = unless_stopped fault (free_in space);
-        fault = fault;
-      }
+  abbrev pub seen : Size → Result Space Stop → S → View
+  seen size (Ok space) store = running_view size.sectors (G.capacity store) (G.words store) (free_in space)
+  seen size (Err stop) store = stopped_view size.sectors (G.capacity store) (G.words store) stop
 
-  abbrev pub view : Live S → View
-  view slab = seen slab.fault slab.space slab.store
+  abbrev pub view : Live S G → View
+  view slab = seen slab.size slab.space slab.store

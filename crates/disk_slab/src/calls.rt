@@ -1,6 +1,6 @@
 // The calls of a live slab.
 ghost use Rattle.std.specs.Prelude.{◌≡◌, ℕ};
-ghost use Rattle.disk_slab.specs.View.{view, Sound};
+ghost use Rattle.disk_slab.specs.View.{view};
 ghost use Rattle.disk_slab.specs.Answers.{Allocates, after_allocate, Frees, after_free, Condenses, with_words, NeverFull, Shows, Follows};
 
 use crate::figures::Figures;
@@ -15,37 +15,34 @@ impl<S: LogStore> Live<S> {
     pub fn allocate(&mut self, want: u64) -> Result<Extent, Refusal>
         ensures answer { Allocates (view S.LogStore self.old) want result }
         ensures leaves { view S.LogStore self.new ≡ after_allocate (view S.LogStore self.old) result }
-        ensures sound { Sound (view S.LogStore self.old) → Sound (view S.LogStore self.new) }
     {
-        if let Some(stop) = self.fault {
-            return Err(Refusal::Stopped(stop));
+        match &mut self.space {
+            Ok(space) => grant(space, &mut self.store, want),
+            Err(stop) => Err(Refusal::Stopped(*stop)),
         }
-        grant(&mut self.space, &mut self.store, want)
     }
 
     // Takes an extent back, any whole or part of what is in hand, and logs the return.
     pub fn free(&mut self, extent: Extent) -> Result<(), Refusal>
         ensures answer { Frees (view S.LogStore self.old) extent result }
         ensures leaves { view S.LogStore self.new ≡ after_free (view S.LogStore self.old) extent result }
-        ensures sound { Sound (view S.LogStore self.old) → Sound (view S.LogStore self.new) }
     {
-        if let Some(stop) = self.fault {
-            return Err(Refusal::Stopped(stop));
+        match &mut self.space {
+            Ok(space) => give_back(space, &mut self.store, extent),
+            Err(stop) => Err(Refusal::Stopped(*stop)),
         }
-        give_back(&mut self.space, &mut self.store, extent)
     }
 
     // Replaces the log with the condensed log, and answers how many words that has.
     pub fn condense(&mut self) -> Result<usize, Refusal>
         ensures answer { Condenses (view S.LogStore self.old) (S.LogStore.words self.new.store) result }
         ensures leaves { view S.LogStore self.new ≡ with_words (view S.LogStore self.old) (S.LogStore.words self.new.store) }
-        ensures sound { Sound (view S.LogStore self.old) → Sound (view S.LogStore self.new) }
-        ensures room { Sound (view S.LogStore self.old) → NeverFull result }
+        ensures room { NeverFull result }
     {
-        if let Some(stop) = self.fault {
-            return Err(Refusal::Stopped(stop));
+        match &self.space {
+            Ok(space) => condense(space, &mut self.store),
+            Err(stop) => Err(Refusal::Stopped(*stop)),
         }
-        condense(&self.space, &mut self.store)
     }
 
     // The figures; those of a stopped slab are 0, but for the number of words.
@@ -53,9 +50,9 @@ impl<S: LogStore> Live<S> {
         ensures { Shows (view S.LogStore self.now) result }
     {
         let words = self.store.count();
-        match self.fault {
-            None => figures_of(&self.space, words),
-            Some(_) => Figures {
+        match &self.space {
+            Ok(space) => figures_of(space, words),
+            Err(_) => Figures {
                 free: 0,
                 extents: 0,
                 longest: 0,
@@ -68,9 +65,9 @@ impl<S: LogStore> Live<S> {
     pub fn next(&self, sector: u64) -> Option<Extent>
         ensures { Follows (view S.LogStore self.now) sector result }
     {
-        match self.fault {
-            None => self.space.next(sector),
-            Some(_) => None,
+        match &self.space {
+            Ok(space) => space.next(sector),
+            Err(_) => None,
         }
     }
 
@@ -78,14 +75,14 @@ impl<S: LogStore> Live<S> {
     pub fn fault(&self) -> Option<Stop>
         ensures { result ≡ (view S.LogStore self.now).fault }
     {
-        self.fault
+        self.space.as_ref().err().copied()
     }
 
     // The size that the slab was opened at.
     pub fn size(&self) -> Size
         ensures { result.sectors ≡ (view S.LogStore self.now).size }
     {
-        self.space.size()
+        self.size
     }
 
     // The store, as the slab's calls have left it.
@@ -94,8 +91,8 @@ impl<S: LogStore> Live<S> {
     {
         let Live {
             store,
+            size: _,
             space: _,
-            fault: _,
         } = self;
         store
     }

@@ -1,6 +1,6 @@
 // The calls of a cold slab.
 ghost use Rattle.std.specs.Prelude.{◌≡◌};
-ghost use Rattle.disk_slab.specs.View.{view, loaded, Sound};
+ghost use Rattle.disk_slab.specs.View.{view, loaded};
 ghost use Rattle.disk_slab.specs.Audits.{Audits};
 
 use crate::figures::Audit;
@@ -23,21 +23,10 @@ impl<S: LogStore> Cold<S> {
     pub fn load(self) -> Live<S>
         ensures store { result.store ≡ self.store }
         ensures loaded { view S.LogStore result ≡ loaded self.size.sectors (S.LogStore.capacity self.store) (S.LogStore.words self.store) }
-        ensures sound { Sound (view S.LogStore result) }
     {
         let Cold { store, size } = self;
-        match Space::replay(&store, size) {
-            Ok(space) => Live {
-                store,
-                space,
-                fault: None,
-            },
-            Err(stop) => Live {
-                store,
-                space: Space::new(size),
-                fault: Some(stop),
-            },
-        }
+        let space = Space::replay(&store, size);
+        Live { store, size, space }
     }
 
     // What the log holds, or its first fault. Nothing changes.

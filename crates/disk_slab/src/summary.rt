@@ -6,9 +6,9 @@ ghost use Rattle.disk_slab.specs.Answers.{Sums};
 ghost use Rattle.disk_slab.specs.Audits.{Tallies, Tallied};
 
 use crate::figures::{Figures, Tally};
-use slab_log::{Entry, decode};
+use slab_log::Entry;
 use space::Space;
-use store::LogStore;
+use store::{LogStore, Words};
 
 // The figures of a slab with this space and so many words in its log.
 pub(crate) fn figures_of(space: &Space, words: usize) -> Figures
@@ -31,10 +31,7 @@ pub(crate) fn tally_of<S: LogStore>(store: &S) -> Tally
         freeing: 0,
         debug: 0,
     };
-    for place in 0..store.count() {
-        let Ok(word) = store.word(place) else {
-            unreachable();
-        };
+    for word in Words::of(store) {
         count_word(&mut tally, word);
     }
     tally
@@ -47,7 +44,7 @@ fn count_word(tally: &mut Tally, word: u64)
     requires debug { tally.old.debug + 1 < 2 ^ 64 }
     ensures { Tallied tally.old word tally.new }
 {
-    if let Ok(entry) = decode(word) {
+    if let Ok(entry) = Entry::try_from(word) {
         match entry {
             Entry::Allocate(_) => tally.allocating += 1,
             Entry::Free(_) => tally.freeing += 1,

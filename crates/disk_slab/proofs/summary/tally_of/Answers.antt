@@ -1,28 +1,26 @@
 -- Each word is counted once.
-use Rattle.std.proofs.Common.{arith}
+use Rattle.std.proofs.Common.{length, ap, arith}
 use Rattle.disk_slab.proofs.Counted.{sofar_none, sofar_more, sofar_all}
 use Rattle.disk_slab.proofs.summary.tally_of.Goals as goal
 
-pub loop-place-init : goal.loop-place-init
-loop-place-init g c = sofar_none (g.S.LogStore.words c.args.store.now)
-
-pub unreachable-requires : goal.unreachable-requires
-unreachable-requires g c = omega (arith, c.in_default.ensures.0)
+pub loop-word-init : goal.loop-word-init
+loop-word-init g c = sofar_none _ _ (cc (c.of-word-items.ensures))
 
 pub count_word-requires : goal.count_word-requires
 count_word-requires g c =
     let store = c.args.store.now in
-    let few = c.loop-place.invariant.few in
-    let inside = c.in-Ok.ensures.0 in
+    let s = c.loop-word.invariant in
+    let long = ap length c.in-Some.ensures.steps in
     let bounded = g.S.LogStore.bounded store in
     let fits = g.S.LogStore.fits store in
-    record { allocating = omega arith; freeing = omega arith; debug = omega arith }
+    record {
+      allocating = omega (arith, s.few_allocated);
+      freeing = omega (arith, s.few_freed);
+      debug = omega (arith, s.few_debugged);
+    }
 
-pub loop-place-preserved : goal.loop-place-preserved
-loop-place-preserved g c =
-    let read = c.in-Ok.ensures in
-    sofar_more (g.S.LogStore.words c.args.store.now) c.loop-place.place c.in-Ok.word c.loop-place.tally _ read.0 read.1 c.loop-place.invariant
-    c.count_word.ensures
+pub loop-word-preserved : goal.loop-word-preserved
+loop-word-preserved g c = sofar_more _ _ _ c.in-Some.word c.loop-word.tally c.in-Some.ensures.steps c.loop-word.invariant _ c.count_word.ensures
 
 pub returns : goal.returns
-returns g c = sofar_all (g.S.LogStore.words c.args.store.now) c.loop-place.place c.loop-place.tally (omega arith) c.loop-place.invariant
+returns g c = sofar_all _ _ c.loop-word.tally c.in-None.ensures.steps.0 c.loop-word.invariant

@@ -1,25 +1,27 @@
--- A stopped slab refuses, and a running one grants.
-use Rattle.std.proofs.Common.{sym, refl, subst}
-use Rattle.disk_slab.specs.View.{View, Sound, view}
-use Rattle.disk_slab.specs.Answers.{Allocates, after_allocate}
+-- A stopped slab refuses, and a running one grants and stays sound.
+use Rattle.std.proofs.Common.{refl}
+use Rattle.disk_slab.specs.View.{running}
+use Rattle.disk_slab.specs.Answers.{after_allocate}
 use Rattle.disk_slab.specs.Answers.Allocates.{stopped}
-use Rattle.disk_slab.proofs.Views.{answered, left_by}
-use Rattle.disk_slab.proofs.Kept.{allocate_keeps}
+use Rattle.disk_slab.proofs.Views.{seen_stopped}
+use Rattle.disk_slab.proofs.Loads.{sound_before, sized_after, replayed_after}
+use Rattle.disk_slab.proofs.Kept.{allocate_keeps, allocate_size}
 use Rattle.disk_slab.proofs.state.Live.allocate.Goals as goal
 
-pub returns-in-Some : goal.returns-in-Some
-returns-in-Some g c = record { answer = stopped c.in-Some.is; leaves = refl; sound = λ s. s }
-
-pub returns : goal.returns
-returns g c =
+pub invariant_of-self : goal.invariant_of-self
+invariant_of-self g c =
     let now = c.args.self.now in
+    let space = c.in-Ok.space in
+    let v = running g.S.LogStore space now.store in
     let r = c.grant.result in
-    let answer = answered g.S.LogStore now.fault c.in_default.is now.space now.store
-    (λ (v : View). Allocates v c.args.want r) c.grant.ensures.answer in
-    let leaves = left_by g.S.LogStore now.fault c.in_default.is now.space c.grant.new.space now.store c.grant.new.store
-    (λ (v : View). after_allocate v r) c.grant.ensures.leaves in
+    let same = allocate_size v r in
     record {
-      answer = answer;
-      leaves = leaves;
-      sound = λ s. subst Sound (sym leaves) (allocate_keeps (view g.S.LogStore now) now.space.size.most c.args.want r answer s);
+      sized = sized_after g.S.LogStore now.size now.space now.store space c.in-Ok.is now.sized c.grant.new.space c.grant.new.store (after_allocate v r) c.grant.ensures.leaves same;
+      sound = replayed_after g.S.LogStore now.size now.space now.store space c.in-Ok.is now.sized c.grant.new.space c.grant.new.store (after_allocate v r) c.grant.ensures.leaves same
+          (allocate_keeps v space.size.most c.args.want r c.grant.ensures.answer (sound_before g.S.LogStore now.size now.space now.store space c.in-Ok.is now.sized now.sound));
     }
+
+pub returns-in-Err-clause-answer : goal.returns-in-Err-clause-answer
+returns-in-Err-clause-answer g c =
+    let now = c.args.self.now in
+    rw (seen_stopped g.S.LogStore now.size now.space now.store c.in-Err.stop c.in-Err.is) (stopped refl)
