@@ -16,24 +16,20 @@ pub enum Command {
 
 // The number that an argument says.
 fn number(argument: &'static str, text: &str) -> Result<u64, Failure> {
-    match text.parse::<u64>() {
-        Ok(number) => Ok(number),
-        Err(_) => Err(Failure::BadNumber(argument)),
-    }
+    text.parse().map_err(|_| Failure::BadNumber(argument))
 }
 
 impl Command {
     // The file that the command is about.
     pub(crate) fn path(&self) -> Option<&str> {
         match self {
-            Command::Help => None,
-            Command::Version => None,
-            Command::Format(path, _) => Some(path.as_str()),
-            Command::Check(path) => Some(path.as_str()),
-            Command::List(path) => Some(path.as_str()),
-            Command::Audit(_, path) => Some(path.as_str()),
-            Command::Condense(_, path) => Some(path.as_str()),
-            Command::Sample(path) => Some(path.as_str()),
+            Command::Help | Command::Version => None,
+            Command::Format(path, _)
+            | Command::Check(path)
+            | Command::List(path)
+            | Command::Audit(_, path)
+            | Command::Condense(_, path)
+            | Command::Sample(path) => Some(path.as_str()),
         }
     }
 

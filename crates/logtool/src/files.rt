@@ -1,5 +1,5 @@
 // Images in files.
-use crate::failure::{Failure, on_file};
+use crate::failure::Failure;
 use crate::listing::{write_audit, write_header, write_words};
 use crate::replacement::{create_new, replace_file};
 use crate::slabs::{audit_log, condense_log};
@@ -10,8 +10,8 @@ use store::{HEADER_BYTES, Header, ImageStore, check, format};
 
 // Writes a file that does not exist yet.
 pub(crate) fn write_new(rt: &HostRuntime, path: &str, bytes: &[u8]) -> Result<(), Failure> {
-    let mut file = on_file(create_new(rt, path))?;
-    on_file(file.write_all(bytes))
+    let mut file = create_new(rt, path).map_err(Failure::File)?;
+    file.write_all(bytes).map_err(Failure::File)
 }
 
 // The header of an image's bytes.
@@ -36,7 +36,7 @@ pub(crate) fn format_file(rt: &HostRuntime, path: &str, bytes: usize) -> Result<
 
 // Tells the header's figures, where the header is in order.
 pub(crate) fn check_file(rt: &HostRuntime, path: &str) -> Result<(), Failure> {
-    let image = on_file(fs::read(rt, path))?;
+    let image = fs::read(rt, path).map_err(Failure::File)?;
     let header = header_of(&image)?;
     rt.println("the header is in order")?;
     write_header(&mut rt.stdout(), header)
@@ -44,7 +44,7 @@ pub(crate) fn check_file(rt: &HostRuntime, path: &str) -> Result<(), Failure> {
 
 // Lists the image of a file. The output goes through a buffer of fixed size.
 pub(crate) fn list_file(rt: &HostRuntime, path: &str) -> Result<(), Failure> {
-    let mut image = on_file(fs::read(rt, path))?;
+    let mut image = fs::read(rt, path).map_err(Failure::File)?;
     let header = header_of(&image)?;
     let mut out = BufWriter::new(rt.alloc(), rt.stdout())?;
     write_header(&mut out, header)?;
@@ -56,7 +56,7 @@ pub(crate) fn list_file(rt: &HostRuntime, path: &str) -> Result<(), Failure> {
 
 // Tells what the log of a file holds at a size, where it has no fault.
 pub(crate) fn audit_file(rt: &HostRuntime, path: &str, sectors: u64) -> Result<(), Failure> {
-    let mut image = on_file(fs::read(rt, path))?;
+    let mut image = fs::read(rt, path).map_err(Failure::File)?;
     let _ = header_of(&image)?;
     let size = Size::new(sectors)?;
     let audit = audit_log(ImageStore::attach(&mut image), size)?;
@@ -65,7 +65,7 @@ pub(crate) fn audit_file(rt: &HostRuntime, path: &str, sectors: u64) -> Result<(
 
 // Replaces the log of a file with the condensed log at a size. A refusal leaves the file as it is.
 pub(crate) fn condense_file(rt: &HostRuntime, path: &str, sectors: u64) -> Result<(), Failure> {
-    let mut image = on_file(fs::read(rt, path))?;
+    let mut image = fs::read(rt, path).map_err(Failure::File)?;
     let _ = header_of(&image)?;
     let size = Size::new(sectors)?;
     let (store, answer) = condense_log(ImageStore::attach(&mut image), size);

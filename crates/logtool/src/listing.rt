@@ -3,7 +3,7 @@ use crate::failure::Failure;
 use crate::word_text::WordText;
 use disk_slab::Audit;
 use std::io::Write;
-use store::{Header, LogStore};
+use store::{Header, LogStore, Words};
 
 // The header's figures, a line for each.
 pub(crate) fn write_header<W: Write>(out: &mut W, header: Header) -> Result<(), Failure> {
@@ -16,8 +16,8 @@ pub(crate) fn write_header<W: Write>(out: &mut W, header: Header) -> Result<(), 
 
 // A line for each word: its place, what it says, and the word in hexadecimal.
 pub(crate) fn write_words<W: Write, S: LogStore>(out: &mut W, store: &S) -> Result<(), Failure> {
-    for place in 0..store.count() {
-        let text = WordText(store.word(place)?);
+    for (place, word) in Words::of(store).enumerate() {
+        let text = WordText(word);
         writeln!(out, "{place}: {text}")?;
     }
     Ok(())

@@ -15,10 +15,7 @@ pub(crate) fn create_new(rt: &HostRuntime, path: &str) -> io::Result<File> {
 // Where that fails the file is as it was, and the new one is gone.
 pub(crate) fn replace_file(rt: &HostRuntime, path: &str, bytes: &[u8]) -> Result<(), Failure> {
     let beside = format!(in rt.alloc(); "{path}.new")?;
-    let file = match create_new(rt, beside.as_str()) {
-        Ok(file) => file,
-        Err(error) => return Err(Failure::Replacement(error)),
-    };
+    let file = create_new(rt, beside.as_str()).map_err(Failure::Replacement)?;
     let Err(error) = fill_and_rename(rt, file, bytes, beside.as_str(), path) else {
         return Ok(());
     };

@@ -1,5 +1,5 @@
 // A word of a log in words.
-use slab_log::{DebugWord, Entry, Fault, decode};
+use slab_log::{DebugWord, Entry};
 use std::fmt;
 
 // What the word says, and the word itself in hexadecimal.
@@ -9,12 +9,9 @@ pub struct WordText(pub u64);
 impl fmt::Display for WordText {
     fn fmt<W: fmt::Write>(&self, f: &mut fmt::Formatter<W>) -> fmt::Result {
         let word = self.0;
-        match decode(word) {
+        match Entry::try_from(word) {
             Ok(entry) => write_entry(entry, f)?,
-            Err(fault) => {
-                let name = fault_name(fault);
-                write!(f, "fault {name}")?;
-            }
+            Err(fault) => write!(f, "fault {fault}")?,
         }
         write!(f, " (0x{word:016X})")
     }
@@ -42,15 +39,4 @@ fn write_span<W: fmt::Write>(
     f: &mut fmt::Formatter<W>,
 ) -> fmt::Result {
     write!(f, "{effect} {run} from {offset}")
-}
-
-// The name of a fault.
-pub(crate) fn fault_name(fault: Fault) -> &'static str {
-    match fault {
-        Fault::Kind => "kind",
-        Fault::Bounds => "bounds",
-        Fault::Taken => "taken",
-        Fault::Again => "again",
-        Fault::Crowded => "crowded",
-    }
 }

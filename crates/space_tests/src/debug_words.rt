@@ -1,6 +1,6 @@
 // Debug words, whatever their action, change nothing, and count as places.
 use crate::helpers::{figures, stop_at, store_of};
-use slab_log::{DebugWord, Entry, Fault, Size, Stop, decode};
+use slab_log::{DebugWord, Entry, Fault, Size, Stop};
 use space::Space;
 use std::test::Fail;
 
@@ -22,10 +22,13 @@ fn debug(action: u8, pass: u16, group: u64) -> Result<Entry, Fault> {
 
 #[test]
 fn the_words_have_the_four_actions(rt: HostRuntime) {
-    assert_eq!(rt; decode(WORDS[0]), debug(0, 0, 0));
-    assert_eq!(rt; decode(WORDS[1]), debug(1, 1, 1));
-    assert_eq!(rt; decode(WORDS[2]), debug(2, 2, 2));
-    assert_eq!(rt; decode(WORDS[3]), debug(3, 1_023, 0x3_FFFF_FFFF_FFFF));
+    assert_eq!(rt; Entry::try_from(WORDS[0]), debug(0, 0, 0));
+    assert_eq!(rt; Entry::try_from(WORDS[1]), debug(1, 1, 1));
+    assert_eq!(rt; Entry::try_from(WORDS[2]), debug(2, 2, 2));
+    assert_eq!(rt;
+        Entry::try_from(WORDS[3]),
+        debug(3, 1_023, 0x3_FFFF_FFFF_FFFF)
+    );
 }
 
 #[test]
@@ -35,7 +38,7 @@ fn a_space_takes_them_and_stays(rt: HostRuntime) -> Result<(), Fail> {
     space.take_word(0x0032_0009)?;
     for word in WORDS {
         assert_eq!(rt; space.take_word(word), Ok(()));
-        assert_eq!(rt; space.apply(decode(word)?), Ok(()));
+        assert_eq!(rt; space.apply(Entry::try_from(word)?), Ok(()));
         figures(&rt, &space, 90, 2, 50);
     }
     Ok(())
