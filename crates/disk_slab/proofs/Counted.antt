@@ -1,5 +1,5 @@
 -- The words of each kind, counted word by word.
-use Rattle.std.proofs.Common.{◌≡◌, ℕ, ◌+◌, ◌<◌, ◌≤◌, Bool, true, false, cond, List, [], ◌∷◌, length, Ok, Err, Result, sym, ap, arith}
+use Rattle.std.proofs.Common.{◌≡◌, ℕ, ◌+◌, ◌≤◌, Bool, true, false, cond, List, [], ◌∷◌, length, Ok, Err, Result, sym, ap, arith}
 use Rattle.slab_log.specs.Words.{read}
 use Rattle.slab_log.specs.declared.entry.Entry.{Entry}
 use Rattle.slab_log.specs.declared.fault.Fault.{Fault}

@@ -1,3 +1,4 @@
 pub mod Extents
 pub mod Free
 pub mod Tables
+pub mod UsedRuns

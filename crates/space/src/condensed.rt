@@ -13,10 +13,8 @@ impl Space {
         ensures { (condensed : List ℕ) → Condensed (sectors_of self.now) (free_in self.now) condensed → result ≡ length condensed }
     {
         let mut words = 0;
-        let mut at = 0;
-        while let Some(extent) = self.next_used(at) {
+        for extent in self.used_runs() {
             words += extent.entries();
-            at = extent.start + extent.length;
         }
         words
     }
@@ -32,12 +30,10 @@ impl Space {
         if places < needed {
             return Err(Refusal::LogFull { places, needed });
         }
-        let mut at = 0;
-        while let Some(extent) = self.next_used(at) {
+        for extent in self.used_runs() {
             let Ok(()) = add_extent(out, Effect::Allocates, extent) else {
                 unreachable();
             };
-            at = extent.start + extent.length;
         }
         Ok(needed)
     }

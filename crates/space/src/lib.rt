@@ -9,5 +9,6 @@ mod run;
 mod space;
 mod tables;
 mod used;
+mod used_runs;
 
 pub use space::Space;

@@ -1,0 +1,22 @@
+-- The runs of sectors in use, one after the other: what a call of their iterator gives.
+use Rattle.std.specs.Prelude.{◌≡◌, ◌+◌, ◌-◌, Some, None, Option}
+use Rattle.std.specs.Iterator.{Count, at_most}
+use Rattle.slab_log.specs.Sectors.{used}
+use Rattle.slab_log.specs.declared.extent.Extent.{Extent}
+use Rattle.space.specs.Free.{sectors_of, free_in, Follows}
+use Rattle.space.specs.declared.used_runs.UsedRuns.{UsedRuns}
+
+-- where the iterator stands after it has given this
+abbrev pub Goes : UsedRuns → Option Extent → UsedRuns → Type 0
+Goes before (Some e) after = after.at ≡ e.start + e.length
+Goes before None after = after.at ≡ before.at
+
+-- the lowest run at or after the sector where it stands, and then it stands behind that run
+pub record GivesNext (before : UsedRuns) (given : Option Extent) (after : UsedRuns) : Type 0 where
+  pub follows : Follows (used (sectors_of before.space.now) (free_in before.space.now)) before.at given
+  pub goes : Goes before given after
+  pub same : after.space.now ≡ before.space.now
+
+-- no more runs are left than sectors
+abbrev pub sectors_left : UsedRuns → Count
+sectors_left runs = at_most (sectors_of runs.space.now - runs.at)
