@@ -27,7 +27,7 @@ impl Key for u64 {
 }
 
 // A length, and where it starts.
-#[derive(Clone, Copy, PartialEq, Eq, Debug)]
+#[derive(Clone, Copy, PartialEq, Eq, Debug, Default)]
 pub struct LengthKey {
     pub len: u64,
     pub start: u64,
