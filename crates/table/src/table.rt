@@ -4,7 +4,7 @@ ghost use Rattle.table.specs.OneWay.{sound_prop};
 
 use crate::chain::{chain_all, give_back};
 use crate::key::{Key, LengthKey};
-use crate::node::{Beside, Entry, Heads, NONE, Node, RECORDS};
+use crate::node::{Beside, Entry, Heads, Item, NONE, Node, RECORDS};
 use crate::tree::balance::read;
 use crate::tree::edit;
 use crate::tree::find::{around, right_end};
@@ -73,7 +73,8 @@ impl<K: Key, V: Copy> Table<K, V> {
             return false;
         }
         let next = read(&self.nodes, at).left;
-        let Some(root) = edit::insert(&mut self.nodes, self.heads.root, at, key, value) else {
+        let Some(root) = edit::insert(&mut self.nodes, self.heads.root, Item { at, key, value })
+        else {
             return false;
         };
         self.heads = Heads {
