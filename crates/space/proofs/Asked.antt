@@ -6,8 +6,8 @@ use Rattle.table.specs.declared.node.Entry.{Entry}
 use Rattle.table.specs.declared.key.LengthKey.{LengthKey}
 use Rattle.table.specs.Order.{shorter}
 use Rattle.table.specs.Pairs.{has, from, first, last}
-use Rattle.table.specs.StartTable.{pairs as starts}
-use Rattle.table.specs.LengthTable.{pairs as lengths}
+use Rattle.table.specs.Table.{pairs as starts}
+use Rattle.table.specs.Table.{pairs as lengths}
 use Rattle.space.specs.Extents.{in_list, span}
 use Rattle.space.specs.Free.{sectors_of, free_in, Longest}
 use Rattle.space.specs.declared.space.Space.{Space}

@@ -1,5 +1,6 @@
 pub mod Spaced
 pub mod Changed
+pub mod Emptied
 pub mod Lengths
 pub mod Counted
 pub mod Searched

@@ -7,8 +7,8 @@ use Rattle.slab_log.specs.Limits.{most_extents}
 use Rattle.slab_log.specs.Sectors.{Sectors, runs}
 use Rattle.table.specs.declared.node.Entry.{Entry}
 use Rattle.table.specs.Pairs.{Ordered, under, last}
-use Rattle.table.specs.StartTable.{pairs as starts}
-use Rattle.table.specs.LengthTable.{pairs as lengths}
+use Rattle.table.specs.Table.{pairs as starts}
+use Rattle.table.specs.Table.{pairs as lengths}
 use Rattle.table.proofs.Soundness.{known}
 use Rattle.space.specs.Extents.{Starts, Spaced, in_list}
 use Rattle.space.specs.Free.{sectors_of, free_in}

@@ -10,7 +10,7 @@ use Rattle.slab_log.specs.declared.fault.Fault.{Fault}
 use Rattle.slab_log.specs.declared.fault.Stop.{Stop}
 use Rattle.slab_log.specs.declared.extent.Extent.{Extent}
 use Rattle.slab_log.specs.declared.size.Size.{Size}
-use Rattle.table.specs.StartTable.{pairs}
+use Rattle.table.specs.Table.{pairs}
 use Rattle.space.specs.Extents.{free_of}
 use Rattle.space.specs.declared.space.Space.{Space}
 

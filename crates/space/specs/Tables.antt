@@ -2,7 +2,7 @@
 use Rattle.std.specs.Prelude.{◌≡◌, ℕ, ◌+◌, ◌-◌, ◌<◌, ◌≤◌, true, false, Some, None, Option}
 use Rattle.slab_log.specs.Sectors.{Sectors, used, meets, begins}
 use Rattle.table.specs.declared.node.Entry.{Entry}
-use Rattle.table.specs.StartTable.{pairs}
+use Rattle.table.specs.Table.{pairs}
 use Rattle.space.specs.Extents.{Starts, free_of, in_list}
 use Rattle.space.specs.Free.{sectors_of, free_in}
 use Rattle.space.specs.declared.space.Space.{Space}

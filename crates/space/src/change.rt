@@ -2,7 +2,7 @@
 ghost use Rattle.std.specs.Prelude.{◌≡◌, ◌+◌, ◌-◌, ◌^◌, ◌<◌, ◌≤◌, length, Some};
 ghost use Rattle.slab_log.specs.Sectors.{meets};
 ghost use Rattle.slab_log.specs.Replay.{grant, granting, returning};
-ghost use Rattle.table.specs.StartTable.{pairs as starts};
+ghost use Rattle.table.specs.Table.{pairs as starts};
 ghost use Rattle.space.specs.Free.{sectors_of, free_in, Changes};
 ghost use Rattle.space.specs.Tables.{Moved, Holds, LeftEdge, RightEdge};
 

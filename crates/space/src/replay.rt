@@ -20,7 +20,7 @@ impl Space {
         let mut by_start = StartTable::new();
         let mut by_length = LengthTable::new();
         let _ = by_start.insert(0, len);
-        let _ = by_length.insert(LengthKey { len, start: 0 });
+        let _ = by_length.insert(LengthKey { len, start: 0 }, ());
         Space {
             size,
             by_start,

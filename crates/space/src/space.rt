@@ -1,7 +1,7 @@
 // The free sectors of a slab, as its free extents in two tables.
 ghost use Rattle.std.specs.Prelude.{◌≡◌, length};
-ghost use Rattle.table.specs.StartTable.{pairs as starts};
-ghost use Rattle.table.specs.LengthTable.{pairs as lengths};
+ghost use Rattle.table.specs.Table.{pairs as starts};
+ghost use Rattle.table.specs.Table.{pairs as lengths};
 ghost use Rattle.space.specs.Extents.{Spaced, Twins, total};
 
 use slab_log::Size;

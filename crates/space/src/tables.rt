@@ -1,7 +1,7 @@
 // One free extent put into both tables of a space, or taken out of both.
 ghost use Rattle.std.specs.Prelude.{◌≡◌, ◌+◌, ◌<◌, ◌≤◌, min, true, length};
 ghost use Rattle.slab_log.specs.Replay.{grant, give_back};
-ghost use Rattle.table.specs.StartTable.{pairs as starts};
+ghost use Rattle.table.specs.Table.{pairs as starts};
 ghost use Rattle.space.specs.Extents.{in_list};
 ghost use Rattle.space.specs.Free.{free_in, sectors_of};
 ghost use Rattle.space.specs.Tables.{Clear, Moved};
@@ -32,7 +32,7 @@ impl Space {
     {
         let SectorRun { start, len } = run;
         let _ = self.by_start.insert(start, len);
-        let _ = self.by_length.insert(LengthKey { len, start });
+        let _ = self.by_length.insert(LengthKey { len, start }, ());
         self.free += len;
     }
 

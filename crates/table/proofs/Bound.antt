@@ -1,8 +1,10 @@
 -- A balanced tree in at most 1,024 records is at most 14 tall, by the list of the fewest nodes.
-use Rattle.std.proofs.Common.{◌≡◌, ℕ, zero, suc, ◌+◌, ◌-◌, ◌<◌, ◌≤◌, max, List, [], ◌∷◌, length, get_or, sym, refl, ap, ◌∙◌, ⊎_elim, arith, length-append}
+use Rattle.std.proofs.Common.{◌≡◌, ℕ, zero, suc, ◌+◌, ◌-◌, ◌<◌, ◌≤◌, max, List, [], ◌∷◌, length, get_or, Option, sym, refl, ap, ◌∙◌, subst, ⊎_elim, arith, length-append}
 use Rattle.std.proofs.lemmas.Bool.{cases_eq, cases_lt, cases_order}
 use Rattle.table.specs.declared.node.Node.{Node}
-use Rattle.table.specs.Least.{counts, Rising}
+use Rattle.std.specs.List.{slice_get}
+use Rattle.std.proofs.lemmas.Option.{slice_get-get_or, slice_get_past}
+use Rattle.table.specs.Least.{counts, Rising, Fewest}
 use Rattle.table.specs.Tree.{Item, Tree, leaf, node, tall, inorder, one, uses, Rep, Near, Avl}
 use Rattle.table.specs.Edit.{Once}
 use Rattle.table.specs.Pairs.{Each}
@@ -54,8 +56,17 @@ module _ {K V : Type 0} where
   least_size (node x l r) h = omega (arith, least_node (tall l) (tall r) h.0, least_size l h.1, least_size r h.2, length-append (inorder l) (x ∷ inorder r))
 
   -- no balanced tree of a listed height has fewer nodes than the list says
-  pub listed_size : (t : Tree K V) → Avl t → tall t < 16 → get_or counts (tall t) 0 ≤ length (inorder t)
+  listed_size : (t : Tree K V) → Avl t → tall t < 16 → get_or counts (tall t) 0 ≤ length (inorder t)
   listed_size t h low = omega (arith, counted (tall t) low, least_size t h)
+
+  -- nor has one of any height, where the list says nothing beyond its end
+  pub fewest_nodes : (t : Tree K V) (n : Option ℕ) → Avl t → n ≡ slice_get counts (tall t) → Fewest n (length (inorder t))
+  fewest_nodes t n h is =
+      subst (λ (m : Option ℕ). Fewest m (length (inorder t))) (sym is)
+      (⊎_elim
+      (λ low. subst (λ (m : Option ℕ). Fewest m (length (inorder t))) (sym (slice_get-get_or counts (tall t) 0 low)) (listed_size t h low))
+      (λ high. subst (λ (m : Option ℕ). Fewest m (length (inorder t))) (sym (slice_get_past counts (tall t) high)) tt)
+      (cases_lt (tall t) 16))
 
   pub size_tall : (t : Tree K V) → Avl t → length (inorder t) ≤ 1024 → tall t ≤ 14
   size_tall t h few =

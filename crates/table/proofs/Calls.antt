@@ -12,13 +12,13 @@ use Rattle.table.specs.Order.{Order}
 use Rattle.table.specs.Pairs.{Each, pair, has, find, put, without, under, from, first, last, Inserts, Removes}
 use Rattle.table.specs.Tree.{Item, Tree, leaf, node, none, inorder, one, uses, cell, Rep}
 use Rattle.table.specs.Edit.{item}
-use Rattle.table.specs.Search.{Sorted, Free, Became, Under, Over}
+use Rattle.table.specs.Search.{Free, Became, Under, Over}
 use Rattle.table.specs.Change.{Absent, Present}
 use Rattle.table.specs.Parts.{front_at, final, NotUnder, Parted}
 use Rattle.table.specs.Sound.{given, spare, Chain, Holds, entry, entry_at}
 use Rattle.table.proofs.Model.{nth_within, nth_some, nth_set_other, one_at, one_off, uses_append, uses_node, same_some}
 use Rattle.table.proofs.Turn.{still}
-use Rattle.table.proofs.Descending.{each_append, each_map, each_left, each_right, cut}
+use Rattle.table.proofs.Descending.{each_append, each_left, each_right}
 use Rattle.table.proofs.Unused.{chain_frame, chain_more}
 use Rattle.table.proofs.Soundness.{all_counted}
 use Rattle.table.proofs.Pairs.{put_between, key_absent, key_present, key_parts, pairs_append, pairs_each}
@@ -56,15 +56,6 @@ module _ {K V : Type 0} where
   entry_final xs [] short h = entry_first xs [] short tt
   entry_final xs (x ∷ []) short h = entry_first xs (x ∷ []) short h
   entry_final xs (x ∷ y ∷ a) short h = entry_final xs (y ∷ a) short h.1
-
-  pub first_within : (xs : List (Node K V)) (b : List (Item K V)) → Each (Reads xs) b → front_at b ≢ none → front_at b < length xs
-  first_within xs [] h ne = absurd (ne refl)
-  first_within xs (x ∷ b) h ne = h.0.within
-
-  pub final_within : (xs : List (Node K V)) (a : List (Item K V)) → Each (Reads xs) a → final a ≢ none → final a < length xs
-  final_within xs [] h ne = absurd (ne refl)
-  final_within xs (x ∷ []) h ne = h.0.within
-  final_within xs (x ∷ y ∷ a) h ne = final_within xs (y ∷ a) h.1 ne
 
   -- the pairs of a list that is cut at an item
   pub pairs_cut : (a : List (Item K V)) (x : Item K V) (b : List (Item K V)) → map entry (a ++ x ∷ b) ≡ map entry a ++ entry x ∷ map entry b
@@ -257,47 +248,11 @@ module _ {K V : Type 0} where
           let k = key_parts before key (map entry p.a) (map entry p.b) (pairs_each (Under before key) p.a p.early) (pairs_each (NotUnder before key) p.b p.late) in
           (ap (under before key) cut_pairs ∙ k.0, ap (from before key) cut_pairs ∙ k.1)
 
-      pub nothing_from : past ≡ none → find before key (map entry (inorder t)) ≡ None
-      nothing_from e = ap (find before key) cut_pairs ∙ none_left p.b (sym e ∙ p.past_is) (each_right (Reads xs) p.a p.b both)
-        where
-          none_left : (b : List (Item K V)) → none ≡ front_at b → Each (Reads xs) b → find before key (map entry p.a ++ map entry b) ≡ None
-          none_left [] f r = (key_absent before key (map entry p.a) [] (pairs_each (Under before key) p.a p.early) tt).1
-          none_left (y ∷ b) f r = absurd (omega (arith, r.0.linkable))
-
-      pub looked_up : Order before → (n : Node K V) → past ≢ none → slice_get xs past ≡ Some n → (before key n.key ≡ false → find before key (map entry (inorder t)) ≡ Some n.value) × (before key n.key ≡ true → find before key (map entry (inorder t)) ≡ None)
-      looked_up o n ne read =
-          let k = go p.b p.past_is (each_right (Reads xs) p.a p.b both) p.late (subst (Sorted before) p.parts h.whole.sorted) in
-          (λ f. ap (find before key) cut_pairs ∙ k.0 f, λ f. ap (find before key) cut_pairs ∙ k.1 f)
-        where
-          early : Each (λ (x : Entry K V). before x.key key ≡ true) (map entry p.a)
-          early = pairs_each (Under before key) p.a p.early
-
-          go : (b : List (Item K V)) → past ≡ front_at b → Each (Reads xs) b → Each (λ (x : Item K V). NotUnder before key x.key) b → Sorted before (p.a ++ b) → (before key n.key ≡ false → find before key (map entry p.a ++ map entry b) ≡ Some n.value) × (before key n.key ≡ true → find before key (map entry p.a ++ map entry b) ≡ None)
-          go [] e r l s = absurd (ne e)
-          go (y ∷ b) e r l s =
-              let is : pair n.key n.value ≡ entry y = r.0.has_pair n (ap (slice_get xs) (sym e) ∙ read) in
-              let key-is : n.key ≡ y.key = ap (λ (q : Entry K V). q.key) is in
-              let above = (cut before p.a y b s).above in (
-                λ f. (key_present before key (map entry p.a) (entry y) (map entry b) early (ap (before key) (sym key-is) ∙ f) l.0).1 ∙ ap (λ (q : Entry K V). Some q.value) (sym is),
-                λ f.
-                    let over : before key y.key ≡ true = ap (before key) (sym key-is) ∙ f in
-                    (key_absent before key (map entry p.a) (map entry (y ∷ b)) early (over, pairs_each (Over before key) b (each_map _ _ b (λ z q. o.transitive key y.key z.key over q) above))).1,
-              )
-
-      pub past_within : past ≢ none → past < length xs
-      past_within ne = rw p.past_is (first_within xs p.b (each_right (Reads xs) p.a p.b both) (λ e. ne (p.past_is ∙ e)))
-
-      pub below_within : below ≢ none → below < length xs
-      below_within ne = rw p.below_is (final_within xs p.a (each_left (Reads xs) p.a p.b both) (λ e. ne (p.below_is ∙ e)))
-
       pub lowest_is : entry_at xs past ≡ first (from before key (map entry (inorder t)))
       lowest_is = ap (entry_at xs) p.past_is ∙ entry_first xs p.b short (each_right (Reads xs) p.a p.b both) ∙ ap first (sym sides.1)
 
       pub highest_is : entry_at xs below ≡ last (under before key (map entry (inorder t)))
       highest_is = ap (entry_at xs) p.below_is ∙ entry_final xs p.a short (each_left (Reads xs) p.a p.b both) ∙ ap last (sym sides.0)
-
-    pub last_within : final (inorder t) ≢ none → final (inorder t) < length xs
-    last_within = final_within xs (inorder t) all_reads
 
     pub last_is : entry_at xs (final (inorder t)) ≡ last (map entry (inorder t))
     last_is = entry_final xs (inorder t) short all_reads

@@ -1,18 +1,24 @@
 -- The way back up: a node over the tree that is new below, and then the next one.
-use Rattle.std.proofs.Common.{◌≡◌, ℕ, ◌+◌, ◌<◌, ◌≤◌, max, Bool, true, false, not, List, [], ◌∷◌, ◌++◌, length, Some, sym, refl, ap, ◌∙◌, subst, append_assoc, append-nil, arith}
+use Rattle.std.proofs.Common.{◌≡◌, ℕ, ◌+◌, ◌<◌, ◌≤◌, max, Bool, true, false, not, List, [], ◌∷◌, ◌++◌, length, Some, sym, refl, ap, ◌∙◌, subst, append_assoc, append-nil, length-append, arith}
 use Rattle.std.specs.List.{slice_get}
 use Rattle.std.proofs.lemmas.Bool.{cases_lt}
+use Rattle.std.proofs.lemmas.List.{same_from_push}
 use Rattle.table.specs.declared.node.Node.{Node}
 use Rattle.table.specs.declared.tree.path.Step.{Step}
 use Rattle.table.specs.Tree.{Item, Tree, ptr, tall, inorder, one, uses, Near}
 use Rattle.table.specs.Edit.{item, Once, Uneven, Balanced, node_on, child_on, RoomOn}
-use Rattle.table.specs.Path.{Frame, on, front, back, top, Along, Climb, Climbed, Progress}
+use Rattle.table.specs.Path.{Frame, on, front, back, top, Along, steps, Climb, Climbed, Progress}
 use Rattle.table.proofs.Model.{nth_within, uses_append, uses_node, one_at, rep_frame, same_some}
 use Rattle.table.proofs.Turn.{placed, row_is, uses_row}
 
 -- h is the height that the side had, t the one that it has, o the other side's, and m that of the two joined
 pub level_near : (h t o m : ℕ) → Near h t → Near h o → max t o ≤ m → m ≤ max t o + 1 → (Near t o → m ≡ max t o + 1) → Near (max h o + 1) m
 level_near h t o m a b c d e = grind (arith, cases_lt t (o + 2), cases_lt o (t + 2))
+
+-- a way without a last step has none
+pub emptied : (path : List Step) → (0 < length path → ⊥) → path ≡ []
+emptied [] h = refl
+emptied (s ∷ path) h = absurd (h (omega arith))
 
 module _ {K V : Type 0} where
   pub top_le : (fs : List (Frame K V)) (h : ℕ) → h ≤ top fs h
@@ -29,49 +35,43 @@ module _ {K V : Type 0} where
   frame_row true x t o fs = simp append_assoc
   frame_row false x t o fs = simp append_assoc
 
-  pub along_frame : (xs ys : List (Node K V)) (path : List Step) (fs : List (Frame K V)) → ((j : ℕ) → 1 ≤ uses j (front fs) + uses j (back fs) → slice_get ys j ≡ slice_get xs j) → Along xs path fs → Along ys path fs
-  along_frame xs ys path [] same h = tt
-  along_frame xs ys path (on s x o ∷ fs) same h = (
+  pub along_frame : (xs ys : List (Node K V)) (fs : List (Frame K V)) → ((j : ℕ) → 1 ≤ uses j (front fs) + uses j (back fs) → slice_get ys j ≡ slice_get xs j) → Along xs fs → Along ys fs
+  along_frame xs ys [] same h = tt
+  along_frame xs ys (on s x o ∷ fs) same h = (
     h.0,
     (h.1.0, same x.at (omega (arith, one_at x.at, frame_uses x.at s x o fs)) ∙ h.1.1, h.1.2, h.1.3),
     rep_frame xs ys o (λ j u. same j (omega (arith, frame_uses j s x o fs))) h.2,
-    h.3,
-    along_frame xs ys path fs (λ j u. same j (omega (arith, frame_uses j s x o fs))) h.4,
+    along_frame xs ys fs (λ j u. same j (omega (arith, frame_uses j s x o fs))) h.3,
   )
 
   -- the last step of a way
-  pub record Pop (fs : List (Frame K V)) (step : Step) (n : Node K V) : Type 0 where
+  pub record Pop (fs : List (Frame K V)) (path : List Step) (step : Step) (n : Node K V) : Type 0 where
     pub o : Tree K V
     pub rest : List (Frame K V)
     pub is : fs ≡ on step.left (item step.at n.key n.value) o ∷ rest
+    pub noted : path ≡ steps rest
     pub side : child_on (not step.left) n ≡ ptr o
 
-  module _ (xs : List (Node K V)) (path : List Step) where
-    step_is : (s : Bool) (x : Item K V) (o : Tree K V) (fs : List (Frame K V)) (i : ℕ) (step : Step) → Along xs path (on s x o ∷ fs) → length (on s x o ∷ fs) ≡ i + 1 → slice_get path i ≡ Some step → step ≡ record { at = x.at; left = s }
-    step_is s x o fs i step h long e =
-        let k : length fs ≡ i = omega (arith, long) in
-        same_some _ _ (sym e ∙ ap (slice_get path) (sym k) ∙ h.3)
+  module _ (xs : List (Node K V)) (path : List Step) (step : Step) where
+    no_step : path ++ step ∷ [] ≡ [] → ⊥
+    no_step e = let k : length path + 1 ≡ 0 = sym (length-append path (step ∷ [])) ∙ ap length e in omega (arith, k)
 
     -- the nodes of the way are in the slice
-    pub step_within : (fs : List (Frame K V)) (i : ℕ) (step : Step) → Along xs path fs → length fs ≡ i + 1 → slice_get path i ≡ Some step → step.at < length xs
-    step_within [] i step h long e = absurd (omega (arith, long))
-    step_within (on s x o ∷ fs) i step h long e = rw (ap (λ (q : Step). q.at) (step_is s x o fs i step h long e)) (nth_within xs x.at _ h.1.1)
+    pub step_within : (fs : List (Frame K V)) → Along xs fs → path ++ step ∷ [] ≡ steps fs → step.at < length xs
+    step_within [] h e = absurd (no_step e)
+    step_within (on s x o ∷ fs) h e = rw (ap (λ (q : Step). q.at) (same_from_push path (steps fs) step _ e).1) (nth_within xs x.at _ h.1.1)
 
-    pub path_within : (fs : List (Frame K V)) (i : ℕ) → Along xs path fs → length fs ≡ i + 1 → i < length path
-    path_within [] i h long = absurd (omega (arith, long))
-    path_within (on s x o ∷ fs) i h long = omega (arith, long, nth_within path (length fs) _ h.3)
-
-    pop : (fs : List (Frame K V)) (i : ℕ) (step : Step) (n : Node K V) → Along xs path fs → length fs ≡ i + 1 → slice_get path i ≡ Some step → slice_get xs step.at ≡ Some n → Pop fs step n
-    pop [] i step n h long e read = absurd (omega (arith, long))
-    pop (on s x o ∷ fs) i step n h long e read =
-        let st = step_is s x o fs i step h long e in
-        let at : step.at ≡ x.at = ap (λ (q : Step). q.at) st in
-        let flag : step.left ≡ s = ap (λ (q : Step). q.left) st in
+    pop : (fs : List (Frame K V)) (n : Node K V) → Along xs fs → path ++ step ∷ [] ≡ steps fs → slice_get xs step.at ≡ Some n → Pop fs path step n
+    pop [] n h e read = absurd (no_step e)
+    pop (on s x o ∷ fs) n h e read =
+        let st = same_from_push path (steps fs) step _ e in
+        let at : step.at ≡ x.at = ap (λ (q : Step). q.at) st.1 in
+        let flag : step.left ≡ s = ap (λ (q : Step). q.left) st.1 in
         let m : n ≡ h.1.0 = same_some _ _ (sym read ∙ ap (slice_get xs) at ∙ h.1.1) in
         let y : item step.at n.key n.value ≡ x = (λ a. item (at a) (m a).key (m a).value) ∙ h.1.2 in
-        record { o = o; rest = fs; is = λ a. on (sym flag a) (sym y a) o ∷ fs; side = (λ a. child_on (not (flag a)) (m a)) ∙ h.1.3 }
+        record { o = o; rest = fs; is = λ a. on (sym flag a) (sym y a) o ∷ fs; noted = st.0; side = (λ a. child_on (not (flag a)) (m a)) ∙ h.1.3 }
 
-  module _ (xs : List (Node K V)) (path : List Step) (d i link : ℕ) (s : Bool) (x : Item K V) (o : Tree K V) (fs : List (Frame K V)) (t : Tree K V) (h : ℕ) (below : d ≡ i + 1) (cl : Climb xs path d link (on s x o ∷ fs) t h) where
+  module _ (xs : List (Node K V)) (path rest : List Step) (link : ℕ) (s : Bool) (x : Item K V) (o : Tree K V) (fs : List (Frame K V)) (t : Tree K V) (h : ℕ) (noted : rest ≡ steps fs) (cl : Climb xs path link (on s x o ∷ fs) t h) where
     climb_uses : (j : ℕ) → uses j (front (on s x o ∷ fs) ++ (inorder t ++ back (on s x o ∷ fs))) ≡ uses j (front fs) + uses j (inorder t) + one j x.at + uses j (inorder o) + uses j (back fs)
     climb_uses j = omega (arith, uses_append j (front (on s x o ∷ fs)) (inorder t ++ back (on s x o ∷ fs)), uses_append j (inorder t) (back (on s x o ∷ fs)), frame_uses j s x o fs)
 
@@ -91,7 +91,7 @@ module _ {K V : Type 0} where
     climb_uneven : Uneven t o
     climb_uneven = record { avl_near = cl.avl; avl_far = cl.lvl.1; gap_near = omega (arith, cl.near, cl.lvl.0); gap_far = omega (arith, cl.near, cl.lvl.0) }
 
-    climb_next : (ys : List (Node K V)) (j : ℕ) → Balanced s xs ys j x t o → Progress xs ys path i j (front (on s x o ∷ fs) ++ (inorder t ++ back (on s x o ∷ fs))) (top (on s x o ∷ fs) h)
+    climb_next : (ys : List (Node K V)) (j : ℕ) → Balanced s xs ys j x t o → Progress xs ys rest j (front (on s x o ∷ fs) ++ (inorder t ++ back (on s x o ∷ fs))) (top (on s x o ∷ fs) h)
     climb_next ys j b =
         let m = b.mended in
         let order : front fs ++ (inorder m.tree ++ back fs) ≡ front (on s x o ∷ fs) ++ (inorder t ++ back (on s x o ∷ fs)) = ap (λ (a : List (Item K V)). front fs ++ (a ++ back fs)) (m.order ∙ sym (row_is s x t o)) ∙ frame_row s x t o fs in
@@ -103,8 +103,8 @@ module _ {K V : Type 0} where
           h = max h (tall o) + 1;
           climb = record {
             stands = m.stands;
-            along = along_frame xs ys path fs (λ k u. same k (omega (arith, cl.once k, climb_uses k))) cl.along.4;
-            long = omega (arith, cl.long);
+            along = along_frame xs ys fs (λ k u. same k (omega (arith, cl.once k, climb_uses k))) cl.along.3;
+            noted = noted;
             once = rw order once;
             avl = m.avl;
             lvl = cl.lvl.2;
@@ -118,14 +118,14 @@ module _ {K V : Type 0} where
         }
 
   -- one turn of the climb: what it asks, and what it comes to
-  pub record Ready (xs ys : List (Node K V)) (path : List Step) (i link other : ℕ) (items : List (Item K V)) (high : ℕ) (step : Step) (n : Node K V) (t : Tree K V) : Type 0 where
+  pub record Ready (xs ys : List (Node K V)) (path : List Step) (link other : ℕ) (items : List (Item K V)) (high : ℕ) (s : Bool) (x : Item K V) (t : Tree K V) : Type 0 where
     pub o : Tree K V
-    pub room : RoomOn step.left ys (item step.at n.key n.value) link other t o
+    pub room : RoomOn s ys x link other t o
     pub uneven : Uneven t o
-    pub next : (zs : List (Node K V)) (j : ℕ) → Balanced step.left ys zs j (item step.at n.key n.value) t o → Progress xs zs path i j items high
+    pub next : (zs : List (Node K V)) (j : ℕ) → Balanced s ys zs j x t o → Progress xs zs path j items high
 
-  module _ (xs ys : List (Node K V)) (path : List Step) (d i link : ℕ) (items : List (Item K V)) (high : ℕ) (p : Progress xs ys path d link items high) (below : d ≡ i + 1) where
-    onward : (zs : List (Node K V)) (j : ℕ) → Progress ys zs path i j (front p.fs ++ (inorder p.tree ++ back p.fs)) (top p.fs p.h) → Progress xs zs path i j items high
+  module _ (xs ys : List (Node K V)) (path rest : List Step) (link : ℕ) (items : List (Item K V)) (high : ℕ) (p : Progress xs ys path link items high) (step : Step) (popped : path ≡ rest ++ step ∷ []) where
+    onward : (zs : List (Node K V)) (j : ℕ) → Progress ys zs rest j (front p.fs ++ (inorder p.tree ++ back p.fs)) (top p.fs p.h) → Progress xs zs rest j items high
     onward zs j q =
         record {
           fs = q.fs;
@@ -138,31 +138,34 @@ module _ {K V : Type 0} where
           same = λ k off. q.same k (ap (uses k) p.order ∙ off) ∙ p.same k off;
         }
 
-    pub ready : (step : Step) (n : Node K V) (other : ℕ) → slice_get path i ≡ Some step → slice_get ys step.at ≡ Some n → other ≡ child_on (not step.left) n → Ready xs ys path i link other items high step n p.tree
-    ready step n other e read side =
-        let k = pop ys path p.fs i step n p.climb.along (omega (arith, p.climb.long)) e read in
+    pub popped_within : step.at < length ys
+    popped_within = step_within ys rest step p.fs p.climb.along (sym popped ∙ p.climb.noted)
+
+    pub ready : (n : Node K V) (other : ℕ) → slice_get ys step.at ≡ Some n → other ≡ child_on (not step.left) n → (y : Item K V) → y ≡ item step.at n.key n.value → Ready xs ys rest link other items high step.left y p.tree
+    ready n other read side y y-is =
+        let k = pop ys rest step p.fs n p.climb.along (sym popped ∙ p.climb.noted) read in
         let s = step.left in
         let x : Item K V = item step.at n.key n.value in
-        let P : List (Frame K V) → Type 0 = λ fs. Climb ys path d link fs p.tree p.h in
+        let P : List (Frame K V) → Type 0 = λ fs. Climb ys path link fs p.tree p.h in
         let cl : P (on s x k.o ∷ k.rest) = subst P k.is p.climb in
-        let Q : List (Frame K V) → Type 0 = λ fs. (zs : List (Node K V)) (j : ℕ) → Balanced s ys zs j x p.tree k.o → Progress ys zs path i j (front fs ++ (inorder p.tree ++ back fs)) (top fs p.h) in
-        let next : Q p.fs = subst Q (sym k.is) (climb_next ys path d i link s x k.o k.rest p.tree p.h below cl) in
-        record {
+        let Q : List (Frame K V) → Type 0 = λ fs. (zs : List (Node K V)) (j : ℕ) → Balanced s ys zs j x p.tree k.o → Progress ys zs rest j (front fs ++ (inorder p.tree ++ back fs)) (top fs p.h) in
+        let next : Q p.fs = subst Q (sym k.is) (climb_next ys path rest link s x k.o k.rest p.tree p.h k.noted cl) in
+        rw y-is (record {
           o = k.o;
-          room = climb_room ys path d i link s x k.o k.rest p.tree p.h below cl other (side ∙ k.side);
-          uneven = climb_uneven ys path d i link s x k.o k.rest p.tree p.h below cl;
+          room = climb_room ys path rest link s x k.o k.rest p.tree p.h k.noted cl other (side ∙ k.side);
+          uneven = climb_uneven ys path rest link s x k.o k.rest p.tree p.h k.noted cl;
           next = λ zs j b. onward zs j (next zs j b);
-        }
+        })
 
   -- the climb begins
-  pub begun : (xs : List (Node K V)) (path : List Step) (d link : ℕ) (fs : List (Frame K V)) (t : Tree K V) (h : ℕ) → Climb xs path d link fs t h → Progress xs xs path d link (front fs ++ (inorder t ++ back fs)) (top fs h)
-  begun xs path d link fs t h cl = record { fs = fs; tree = t; h = h; climb = cl; order = refl; high_is = refl; long = refl; same = λ j off. refl }
+  pub begun : (xs : List (Node K V)) (path : List Step) (link : ℕ) (fs : List (Frame K V)) (t : Tree K V) (h : ℕ) → Climb xs path link fs t h → Progress xs xs path link (front fs ++ (inorder t ++ back fs)) (top fs h)
+  begun xs path link fs t h cl = record { fs = fs; tree = t; h = h; climb = cl; order = refl; high_is = refl; long = refl; same = λ j off. refl }
 
   -- the climb is over
-  ended : (xs ys : List (Node K V)) (path : List Step) (i link : ℕ) (items : List (Item K V)) (high : ℕ) (fs : List (Frame K V)) (t : Tree K V) (h : ℕ) → i ≤ 0 → Climb ys path i link fs t h → front fs ++ (inorder t ++ back fs) ≡ items → top fs h ≡ high → length ys ≡ length xs → ((j : ℕ) → uses j items ≡ 0 → slice_get ys j ≡ slice_get xs j) → Climbed xs ys link items high
-  ended xs ys path i link items high [] t h low cl order high_is long same =
+  ended : (xs ys : List (Node K V)) (path : List Step) (link : ℕ) (items : List (Item K V)) (high : ℕ) (fs : List (Frame K V)) (t : Tree K V) (h : ℕ) → path ≡ [] → Climb ys path link fs t h → front fs ++ (inorder t ++ back fs) ≡ items → top fs h ≡ high → length ys ≡ length xs → ((j : ℕ) → uses j items ≡ 0 → slice_get ys j ≡ slice_get xs j) → Climbed xs ys link items high
+  ended xs ys path link items high [] t h low cl order high_is long same =
       record { tree = t; stands = cl.stands; order = sym (append-nil (inorder t)) ∙ order; avl = cl.avl; near = rw (← high_is) cl.near; long = long; same = same }
-  ended xs ys path i link items high (f ∷ fs) t h low cl order high_is long same = absurd (omega (arith, cl.long))
+  ended xs ys path link items high (on s x o ∷ fs) t h low cl order high_is long same = absurd (no_step xs (steps fs) _ (sym cl.noted ∙ low))
 
-  pub done : (xs ys : List (Node K V)) (path : List Step) (i link : ℕ) (items : List (Item K V)) (high : ℕ) → i ≤ 0 → Progress xs ys path i link items high → Climbed xs ys link items high
-  done xs ys path i link items high low p = ended xs ys path i link items high p.fs p.tree p.h low p.climb p.order p.high_is p.long p.same
+  pub done : (xs ys : List (Node K V)) (path : List Step) (link : ℕ) (items : List (Item K V)) (high : ℕ) → path ≡ [] → Progress xs ys path link items high → Climbed xs ys link items high
+  done xs ys path link items high low p = ended xs ys path link items high p.fs p.tree p.h low p.climb p.order p.high_is p.long p.same

@@ -1,15 +1,14 @@
 -- The way down.
-use Rattle.std.proofs.Common.{◌≡◌, ℕ, ◌+◌, ◌-◌, ◌<◌, ◌≤◌, Bool, true, false, not, ◌≢◌, List, [], ◌∷◌, ◌++◌, length, set, Some, sym, refl, ap, ◌∙◌, subst, append-nil, arith}
+use Rattle.std.proofs.Common.{◌≡◌, ℕ, ◌+◌, ◌-◌, ◌<◌, ◌≤◌, Bool, true, false, not, ◌≢◌, List, [], ◌∷◌, ◌++◌, length, Some, sym, refl, ap, ◌∙◌, subst, append-nil, length-append, arith}
 use Rattle.std.specs.List.{slice_get}
-use Rattle.std.proofs.lemmas.List.{length-set}
 use Rattle.table.specs.declared.node.Node.{Node}
 use Rattle.table.specs.declared.tree.path.Step.{Step}
 use Rattle.table.specs.Tree.{Item, Tree, none, tall, inorder, Avl, Stands}
 use Rattle.table.specs.Edit.{item, node_on, child_on}
-use Rattle.table.specs.Path.{Frame, on, front, back, top, Lvl, Along}
+use Rattle.table.specs.Path.{Frame, on, front, back, top, Lvl}
 use Rattle.table.specs.Pairs.{Each}
 use Rattle.table.specs.Search.{Sorted, Whole, Way, Walk, Descent}
-use Rattle.table.proofs.Model.{nth_set_same, nth_set_other, opened}
+use Rattle.table.proofs.Model.{opened}
 use Rattle.table.proofs.Turn.{tall_on, avl_off}
 use Rattle.table.proofs.Climbing.{frame_row}
 
@@ -46,67 +45,61 @@ module _ {K V : Type 0} (before : K → K → Bool) where
       record { left = (each_left P a (x ∷ b) h.0, k.left); right = k.right; below = ((each_right P a (x ∷ b) h.0).0, k.below); above = k.above }
 
 module _ {K V : Type 0} where
-  -- a step noted past the way does not disturb it
-  pub along_set : (xs : List (Node K V)) (path : List Step) (d : ℕ) (s : Step) (fs : List (Frame K V)) → length fs ≤ d → Along xs path fs → Along xs (set path d s) fs
-  along_set xs path d s [] low h = tt
-  along_set xs path d s (on b x o ∷ fs) low h = (h.0, h.1, h.2, nth_set_other path d (length fs) s (λ e. omega (arith, low)) ∙ h.3, along_set xs path d s fs (omega (arith, low)) h.4)
-
   -- one step more, to the near side of a node
-  module _ (xs : List (Node K V)) (path : List Step) (deep link : ℕ) (t : Tree K V) (n : Node K V) (read : slice_get xs link ≡ Some n) (linkable : link < none) (fs : List (Frame K V)) (s : Bool) (near far : Tree K V) (on_near : Stands xs (child_on s n) near) (on_far : Stands xs (child_on (not s) n) far) (w : Way xs path deep link t fs (node_on s (item link n.key n.value) near far)) where
-    pub way_on : Way xs (set path deep (record { at = link; left = s })) (deep + 1) (child_on s n) t (on s (item link n.key n.value) far ∷ fs) near
+  module _ (xs : List (Node K V)) (path : List Step) (link : ℕ) (t : Tree K V) (n : Node K V) (read : slice_get xs link ≡ Some n) (linkable : link < none) (fs : List (Frame K V)) (s : Bool) (near far : Tree K V) (on_near : Stands xs (child_on s n) near) (on_far : Stands xs (child_on (not s) n) far) (w : Way xs path link t fs (node_on s (item link n.key n.value) near far)) where
+    pub way_on : Way xs (path ++ record { at = link; left = s } ∷ []) (child_on s n) t (on s (item link n.key n.value) far ∷ fs) near
     way_on =
         let x : Item K V = item link n.key n.value in
         let step : Step = record { at = link; left = s } in
         let high = tall_on s x near far in
         let avl = avl_off s x near far w.avl in
-        let here : slice_get (set path deep step) (length fs) ≡ Some step = rw (← w.long) (nth_set_same path deep step (omega (arith, w.space))) in
         record {
           stands = on_near;
-          along = (linkable, (n, read, refl, on_far.root), on_far.held, here, along_set xs path deep step fs (omega (arith, w.long)) w.along);
-          long = omega (arith, w.long);
+          along = (linkable, (n, read, refl, on_far.root), on_far.held, w.along);
+          noted = ap (λ (q : List Step). q ++ step ∷ []) w.noted;
           order = sym (frame_row s x near far fs) ∙ w.order;
           avl = avl.1;
           lvl = (avl.0, avl.2, subst (Lvl fs) high w.lvl);
           high = ap (top fs) (sym high) ∙ w.high;
-          space = rw (length-set path deep step) (omega (arith, w.space));
+          space = omega (arith, w.space, length-append path (step ∷ []));
         }
 
-  module _ (before : K → K → Bool) (E L : K → Type 0) (xs : List (Node K V)) (path : List Step) (deep link : ℕ) (t : Tree K V) (n : Node K V) (read : slice_get xs link ≡ Some n) (some : link ≢ none) (d : Descent before E L xs path deep link t) where
-    pub deep_within : deep < length path
+  module _ (before : K → K → Bool) (E L : K → Type 0) (xs : List (Node K V)) (path : List Step) (link : ℕ) (t : Tree K V) (n : Node K V) (read : slice_get xs link ≡ Some n) (some : link ≢ none) (d : Descent before E L xs path link t) where
+    pub deep_within : length path < 14
     deep_within =
         let o = opened xs link n d.sub d.walk.way.stands some read in
         omega (arith, d.walk.way.space, ap tall o.is)
 
-    pub went_left : L n.key → ((y : K) → before n.key y ≡ true → L y) → Descent before E L xs (set path deep (record { at = link; left = true })) (deep + 1) n.left t
+    pub went_left : L n.key → ((y : K) → before n.key y ≡ true → L y) → Descent before E L xs (path ++ record { at = link; left = true } ∷ []) n.left t
     went_left here more =
         let x : Item K V = item link n.key n.value in
         let o = opened xs link n d.sub d.walk.way.stands some read in
-        let w = subst (λ (s : Tree K V). Walk before E L xs path deep link t d.fs s) o.is d.walk in
+        let w = subst (λ (s : Tree K V). Walk before E L xs path link t d.fs s) o.is d.walk in
         let k = cut before (inorder o.l) x (inorder o.r) w.sorted in
         let P : Item K V → Type 0 = λ y. L y.key in
         record {
           fs = _;
           sub = o.l;
           walk = record {
-            way = way_on xs path deep link t n read o.linkable d.fs true o.l o.r o.on_left o.on_right w.way;
+            way = way_on xs path link t n read o.linkable d.fs true o.l o.r o.on_left o.on_right w.way;
             sorted = k.left;
             early = w.early;
             late = (here, each_append P (inorder o.r) (back d.fs) (each_map _ P (inorder o.r) (λ y h. more y.key h) k.above) w.late);
           };
         }
 
-    pub went_right : E n.key → ((y : K) → before y n.key ≡ true → E y) → Descent before E L xs (set path deep (record { at = link; left = false })) (deep + 1) n.right t
+    pub went_right : E n.key → ((y : K) → before y n.key ≡ true → E y) → Descent before E L xs (path ++ record { at = link; left = false } ∷ []) n.right t
     went_right here more =
         let x : Item K V = item link n.key n.value in
         let o = opened xs link n d.sub d.walk.way.stands some read in
-        let w = subst (λ (s : Tree K V). Walk before E L xs path deep link t d.fs s) o.is d.walk in
+        let w = subst (λ (s : Tree K V). Walk before E L xs path link t d.fs s) o.is d.walk in
         let k = cut before (inorder o.l) x (inorder o.r) w.sorted in
         let P : Item K V → Type 0 = λ y. E y.key in
         record {
           fs = _;
           sub = o.r;
           walk = record {
-            way = way_on xs path deep link t n read o.linkable d.fs false o.r o.l o.on_right o.on_left w.way;
+            way = way_on xs path link t n read o.linkable d.fs false o.r o.l o.on_right o.on_left w.way;
             sorted = k.right;
             early = each_append P (front d.fs) (inorder o.l ++ x ∷ []) w.early (each_append P (inorder o.l) (x ∷ []) (each_map _ P (inorder o.l) (λ y h. more y.key h) k.below) (here, tt));
             late = w.late;
@@ -114,21 +107,21 @@ module _ {K V : Type 0} where
         }
 
   -- the way begins at the root
-  pub way_starts : (xs : List (Node K V)) (path : List Step) (root : ℕ) (t : Tree K V) → Stands xs root t → Avl t → tall t ≤ length path → Way xs path 0 root t [] t
-  way_starts xs path root t s avl space =
-      record { stands = s; along = tt; long = refl; order = append-nil (inorder t); avl = avl; lvl = tt; high = refl; space = omega (arith, space) }
+  pub way_starts : (xs : List (Node K V)) (root : ℕ) (t : Tree K V) → Stands xs root t → Avl t → tall t ≤ 14 → Way xs [] root t [] t
+  way_starts xs root t s avl space =
+      record { stands = s; along = tt; noted = refl; order = append-nil (inorder t); avl = avl; lvl = tt; high = refl; space = omega (arith, space) }
 
-  pub starts : (before : K → K → Bool) (E L : K → Type 0) (xs : List (Node K V)) (path : List Step) (root : ℕ) (t : Tree K V) → Whole before xs root t → tall t ≤ length path → Descent before E L xs path 0 root t
-  starts before E L xs path root t w space =
-      record { fs = []; sub = t; walk = record { way = way_starts xs path root t w.stands w.avl space; sorted = w.sorted; early = tt; late = tt } }
+  pub starts : (before : K → K → Bool) (E L : K → Type 0) (xs : List (Node K V)) (path : List Step) (root : ℕ) (t : Tree K V) → path ≡ [] → Whole before xs root t → tall t ≤ 14 → Descent before E L xs path root t
+  starts before E L xs path root t empty w space =
+      rw empty (record { fs = []; sub = t; walk = record { way = way_starts xs root t w.stands w.avl space; sorted = w.sorted; early = tt; late = tt } })
 
-pub at_link : {K V : Type 0} (before : K → K → Bool) (E L : K → Type 0) (xs : List (Node K V)) (path : List Step) (deep link k : ℕ) (t : Tree K V) → link ≡ k → Descent before E L xs path deep link t → Descent before E L xs path deep k t
-at_link before E L xs path deep link k t e d = subst (λ (i : ℕ). Descent before E L xs path deep i t) e d
+pub at_link : {K V : Type 0} (before : K → K → Bool) (E L : K → Type 0) (xs : List (Node K V)) (path : List Step) (link k : ℕ) (t : Tree K V) → link ≡ k → Descent before E L xs path link t → Descent before E L xs path k t
+at_link before E L xs path link k t e d = subst (λ (i : ℕ). Descent before E L xs path i t) e d
 
 -- a way that a call has noted
-pub noted : {K V : Type 0} (before : K → K → Bool) (E L : K → Type 0) (xs : List (Node K V)) (path path-2 : List Step) (deep deep-2 link : ℕ) (t : Tree K V) → path-2 ≡ path → deep-2 ≡ deep → Descent before E L xs path deep link t → Descent before E L xs path-2 deep-2 link t
-noted before E L xs path path-2 deep deep-2 link t e f d = rw (e, f) d
+pub noted : {K V : Type 0} (before : K → K → Bool) (E L : K → Type 0) (xs : List (Node K V)) (path path-2 : List Step) (link : ℕ) (t : Tree K V) → path-2 ≡ path → Descent before E L xs path link t → Descent before E L xs path-2 link t
+noted before E L xs path path-2 link t e d = rw e d
 
 -- one more step leaves less room
-pub room_falls : (long now deep next : ℕ) → now ≡ long → deep < now → next ≡ deep + 1 → long - next < long - deep
-room_falls long now deep next e h f = omega arith
+pub room_falls : (old new : ℕ) → old < 14 → new ≡ old + 1 → 14 - new < 14 - old
+room_falls old new h e = omega arith

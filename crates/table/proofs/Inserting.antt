@@ -30,15 +30,15 @@ module _ {K V : Type 0} where
         low_right = omega arith;
       }
 
-  module _ (before : K → K → Bool) (x : Item K V) (xs ys : List (Node K V)) (path : List Step) (deep root i : ℕ) (t : Tree K V) (whole : Whole before xs root t) (free : Free xs x.at t) (low : tall t ≤ 14) (j1 : Joined xs ys i x leaf leaf) where
-    at_end : (fs : List (Frame K V)) → Walk before (Under before x.key) (Over before x.key) xs path deep none t fs leaf → Climb ys path deep i fs (node x leaf leaf) 0
+  module _ (before : K → K → Bool) (x : Item K V) (xs ys : List (Node K V)) (path : List Step) (root i : ℕ) (t : Tree K V) (whole : Whole before xs root t) (free : Free xs x.at t) (low : tall t ≤ 14) (j1 : Joined xs ys i x leaf leaf) where
+    at_end : (fs : List (Frame K V)) → Walk before (Under before x.key) (Over before x.key) xs path none t fs leaf → Climb ys path i fs (node x leaf leaf) 0
     at_end fs w =
         let all : (j : ℕ) → uses j (front fs) + uses j (back fs) ≡ uses j (inorder t) = λ j. sym (uses_append j (front fs) (back fs)) ∙ ap (uses j) w.way.order in
         let off : (j : ℕ) → 1 ≤ uses j (front fs) + uses j (back fs) → j ≢ x.at = λ j u e. let same : uses j (inorder t) ≡ uses x.at (inorder t) = ap (λ (k : ℕ). uses k (inorder t)) e in omega (arith, all j, free.unused) in
         record {
           stands = j1.stands;
-          along = along_frame xs ys path fs (λ j u. j1.kept.same j (off j u)) w.way.along;
-          long = w.way.long;
+          along = along_frame xs ys fs (λ j u. j1.kept.same j (off j u)) w.way.along;
+          noted = w.way.noted;
           once = λ j. ⊎_elim
               (λ e. let same : uses j (inorder t) ≡ uses x.at (inorder t) = ap (λ (k : ℕ). uses k (inorder t)) e in omega (arith, ap (λ (k : ℕ). one k x.at) e, one_at x.at, uses_node j x (front fs) (back fs), all j, free.unused))
               (λ ne. omega (arith, one_off j x.at ne, uses_node j x (front fs) (back fs), all j, whole.once j))
@@ -49,10 +49,10 @@ module _ {K V : Type 0} where
           low = omega (arith, w.way.high, low);
         }
 
-    pub hung : (d : Descent before (Under before x.key) (Over before x.key) xs path deep none t) → Climb ys path deep i d.fs (node x leaf leaf) 0
-    hung d = at_end d.fs (subst (λ (s : Tree K V). Walk before (Under before x.key) (Over before x.key) xs path deep none t d.fs s) (empty_leaf xs none d.sub d.walk.way.stands refl) d.walk)
+    pub hung : (d : Descent before (Under before x.key) (Over before x.key) xs path none t) → Climb ys path i d.fs (node x leaf leaf) 0
+    hung d = at_end d.fs (subst (λ (s : Tree K V). Walk before (Under before x.key) (Over before x.key) xs path none t d.fs s) (empty_leaf xs none d.sub d.walk.way.stands refl) d.walk)
 
-    finish : (zs : List (Node K V)) (link : ℕ) (fs : List (Frame K V)) → Walk before (Under before x.key) (Over before x.key) xs path deep none t fs leaf → Climbed ys zs link (front fs ++ (x ∷ back fs)) (top fs 0) → (s : Absent before x.key (inorder t)) × Became before xs zs link (s.a ++ x ∷ s.b)
+    finish : (zs : List (Node K V)) (link : ℕ) (fs : List (Frame K V)) → Walk before (Under before x.key) (Over before x.key) xs path none t fs leaf → Climbed ys zs link (front fs ++ (x ∷ back fs)) (top fs 0) → (s : Absent before x.key (inorder t)) × Became before xs zs link (s.a ++ x ∷ s.b)
     finish zs link fs w k =
         let once : Once (front fs ++ x ∷ back fs) = (at_end fs w).once in
         let sorted : Sorted before (front fs ++ x ∷ back fs) = sorted_more before (front fs) x (back fs) (rw w.way.order whole.sorted) w.early w.late in (
@@ -66,5 +66,5 @@ module _ {K V : Type 0} where
           },
         )
 
-    pub finished : (d : Descent before (Under before x.key) (Over before x.key) xs path deep none t) (zs : List (Node K V)) (link : ℕ) → Climbed ys zs link (front d.fs ++ (x ∷ back d.fs)) (top d.fs 0) → (s : Absent before x.key (inorder t)) × Became before xs zs link (s.a ++ x ∷ s.b)
-    finished d zs link k = finish zs link d.fs (subst (λ (s : Tree K V). Walk before (Under before x.key) (Over before x.key) xs path deep none t d.fs s) (empty_leaf xs none d.sub d.walk.way.stands refl) d.walk) k
+    pub finished : (d : Descent before (Under before x.key) (Over before x.key) xs path none t) (zs : List (Node K V)) (link : ℕ) → Climbed ys zs link (front d.fs ++ (x ∷ back d.fs)) (top d.fs 0) → (s : Absent before x.key (inorder t)) × Became before xs zs link (s.a ++ x ∷ s.b)
+    finished d zs link k = finish zs link d.fs (subst (λ (s : Tree K V). Walk before (Under before x.key) (Over before x.key) xs path none t d.fs s) (empty_leaf xs none d.sub d.walk.way.stands refl) d.walk) k

@@ -13,4 +13,3 @@ pub mod Unused
 pub mod Soundness
 pub mod Pairs
 pub mod Calls
-pub mod Tables

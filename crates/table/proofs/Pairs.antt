@@ -1,12 +1,13 @@
 -- What the definitions on sorted lists of pairs give where a list is cut at a key.
-use Rattle.std.proofs.Common.{◌≡◌, Bool, true, false, not, ◌&&◌, ◌||◌, List, [], ◌∷◌, ◌++◌, map, Some, None, sym, refl, ap, ◌∙◌}
+use Rattle.std.proofs.Common.{◌≡◌, Bool, true, false, not, ◌&&◌, ◌||◌, List, [], ◌∷◌, ◌++◌, map, Some, None, Option, cond, sym, refl, ap, ◌∙◌}
 use Rattle.std.proofs.lemmas.Bool.{cond-true, cond-false, both_ways}
 use Rattle.table.specs.declared.node.Entry.{Entry}
 use Rattle.table.specs.Order.{Order}
-use Rattle.table.specs.Pairs.{Each, pair, Ordered, alike, has, find, put, without, under, from}
+use Rattle.table.specs.Pairs.{Each, pair, Ordered, alike, has, find, put, without, under, from, first}
 use Rattle.table.specs.Tree.{Item}
 use Rattle.table.specs.Search.{Sorted}
 use Rattle.table.specs.Sound.{entry}
+use Rattle.table.proofs.Descending.{each_map}
 
 off_left : (p q : Bool) → p ≡ true → (not p && not q) ≡ false
 off_left true q e = refl
@@ -84,6 +85,26 @@ module _ {K V : Type 0} (before : K → K → Bool) (key : K) where
   key_parts (y ∷ a) b h k =
       let rest = key_parts a b h.1 k in
       (cond-true (before y.key key) _ _ h.0 ∙ ap (λ (q : List (Entry K V)). y ∷ q) rest.0, cond-true (before y.key key) _ _ h.0 ∙ rest.1)
+
+  -- the value of a pair with the key, where the pair does not come before it
+  abbrev pub answer : Option (Entry K V) → Option V
+  answer None = None
+  answer (Some e) = cond (before key e.key) None (Some e.value)
+
+  -- only the first pair that does not come before the key can have it
+  lowest_has : Order before → (ps : List (Entry K V)) → Ordered before ps → find before key ps ≡ answer (first (from before key ps))
+  lowest_has o [] s = refl
+  lowest_has o (x ∷ ps) s = go (before x.key key) (before key x.key) refl refl (lowest_has o ps s.1)
+    where
+      go : (p q : Bool) → before x.key key ≡ p → before key x.key ≡ q → find before key ps ≡ answer (first (from before key ps)) → find before key (x ∷ ps) ≡ answer (first (from before key (x ∷ ps)))
+      go true q e f rest = cond-false _ _ _ (off_right (before key x.key) (before x.key key) e) ∙ rest ∙ sym (ap (λ (r : List (Entry K V)). answer (first r)) (cond-true (before x.key key) _ _ e))
+      go false true e f rest =
+          let over = each_map _ _ ps (λ y h. o.transitive key x.key y.key f h) s.0 in
+          cond-false _ _ _ (off_left (before key x.key) (before x.key key) f) ∙ (past ps over).1 ∙ sym (ap (λ (r : List (Entry K V)). answer (first r)) (cond-false (before x.key key) _ _ e) ∙ cond-true (before key x.key) _ _ f)
+      go false false e f rest = cond-true _ _ _ (on_both (before key x.key) (before x.key key) f e) ∙ sym (ap (λ (r : List (Entry K V)). answer (first r)) (cond-false (before x.key key) _ _ e) ∙ cond-false (before key x.key) _ _ f)
+
+  pub found_at : Order before → (ps : List (Entry K V)) → Ordered before ps → (r p : Option (Entry K V)) → r ≡ first (from before key ps) → r ≡ p → find before key ps ≡ answer p
+  found_at o ps s r p lowest is = lowest_has o ps s ∙ ap answer (sym lowest ∙ is)
 
 -- from items to their pairs
 module _ {K V : Type 0} where

@@ -1,5 +1,5 @@
 -- Nodes that are taken out.
-use Rattle.std.proofs.Common.{◌≡◌, ℕ, ◌+◌, ◌<◌, ◌≤◌, max, Bool, true, false, ◌≢◌, List, [], ◌∷◌, ◌++◌, length, set, Some, sym, refl, ap, ◌∙◌, subst, append_assoc, append-nil, arith}
+use Rattle.std.proofs.Common.{◌≡◌, ℕ, ◌+◌, ◌<◌, ◌≤◌, max, Bool, true, false, ◌≢◌, List, [], ◌∷◌, ◌++◌, length, Some, sym, refl, ap, ◌∙◌, subst, append_assoc, append-nil, arith}
 use Rattle.std.specs.List.{slice_get}
 use Rattle.table.specs.declared.node.Node.{Node}
 use Rattle.table.specs.declared.tree.path.Step.{Step}
@@ -16,33 +16,33 @@ use Rattle.table.proofs.Lists.{sorted_less}
 use Rattle.table.proofs.Inserting.{empty_leaf}
 
 module _ {K V : Type 0} where
-  pub left_starts : (xs : List (Node K V)) (path : List Step) (root : ℕ) (t : Tree K V) → Stem xs root t → tall t ≤ length path → Leftward xs path 0 root t
-  left_starts xs path root t s space = record { fs = []; sub = t; way = way_starts xs path root t s.stands s.avl space; some = s.some; first = refl }
+  pub left_starts : (xs : List (Node K V)) (path : List Step) (root : ℕ) (t : Tree K V) → path ≡ [] → Stem xs root t → Leftward xs path root t
+  left_starts xs path root t empty s = rw empty (record { fs = []; sub = t; way = way_starts xs root t s.stands s.avl s.low; some = s.some; first = refl })
 
-  module _ (xs : List (Node K V)) (path : List Step) (deep link : ℕ) (t : Tree K V) (n : Node K V) (lw : Leftward xs path deep link t) (read : slice_get xs link ≡ Some n) where
-    pub left_within : deep < length path
+  module _ (xs : List (Node K V)) (path : List Step) (link : ℕ) (t : Tree K V) (n : Node K V) (lw : Leftward xs path link t) (read : slice_get xs link ≡ Some n) where
+    pub left_within : length path < 14
     left_within =
         let o = opened xs link n lw.sub lw.way.stands lw.some read in
         omega (arith, lw.way.space, ap tall o.is)
 
-    pub left_step : n.left ≢ none → Leftward xs (set path deep (record { at = link; left = true })) (deep + 1) n.left t
+    pub left_step : n.left ≢ none → Leftward xs (path ++ record { at = link; left = true } ∷ []) n.left t
     left_step more =
         let o = opened xs link n lw.sub lw.way.stands lw.some read in
-        let w = subst (λ (s : Tree K V). Way xs path deep link t lw.fs s) o.is lw.way in
-        record { fs = _; sub = o.l; way = way_on xs path deep link t n read o.linkable lw.fs true o.l o.r o.on_left o.on_right w; some = more; first = lw.first }
+        let w = subst (λ (s : Tree K V). Way xs path link t lw.fs s) o.is lw.way in
+        record { fs = _; sub = o.l; way = way_on xs path link t n read o.linkable lw.fs true o.l o.r o.on_left o.on_right w; some = more; first = lw.first }
 
   -- a way that a call has noted
-  pub left_noted : (xs : List (Node K V)) (path path-2 : List Step) (deep deep-2 link : ℕ) (t : Tree K V) → path-2 ≡ path → deep-2 ≡ deep → Leftward xs path deep link t → Leftward xs path-2 deep-2 link t
-  left_noted xs path path-2 deep deep-2 link t e f d = rw (e, f) d
+  pub left_noted : (xs : List (Node K V)) (path path-2 : List Step) (link : ℕ) (t : Tree K V) → path-2 ≡ path → Leftward xs path link t → Leftward xs path-2 link t
+  left_noted xs path path-2 link t e d = rw e d
 
   -- the first node, with only a right side
-  pub record MinReady (xs : List (Node K V)) (path : List Step) (deep link : ℕ) (t : Tree K V) (n : Node K V) (fs : List (Frame K V)) : Type 0 where
+  pub record MinReady (xs : List (Node K V)) (path : List Step) (link : ℕ) (t : Tree K V) (n : Node K V) (fs : List (Frame K V)) : Type 0 where
     pub rest : Tree K V
-    pub climb : Climb xs path deep n.right fs rest (max 0 (tall rest) + 1)
+    pub climb : Climb xs path n.right fs rest (max 0 (tall rest) + 1)
     pub next : (ys : List (Node K V)) (i : ℕ) → Climbed xs ys i (front fs ++ (inorder rest ++ back fs)) (top fs (max 0 (tall rest) + 1)) → MinTaken xs ys link i t
 
-  module _ (xs : List (Node K V)) (path : List Step) (deep link root : ℕ) (t : Tree K V) (n : Node K V) (stem : Stem xs root t) (read : slice_get xs link ≡ Some n) where
-    min_at : (fs : List (Frame K V)) (r : Tree K V) → Stands xs n.right r → front fs ≡ [] → Way xs path deep link t fs (node (item link n.key n.value) leaf r) → MinReady xs path deep link t n fs
+  module _ (xs : List (Node K V)) (path : List Step) (link root : ℕ) (t : Tree K V) (n : Node K V) (stem : Stem xs root t) (read : slice_get xs link ≡ Some n) where
+    min_at : (fs : List (Frame K V)) (r : Tree K V) → Stands xs n.right r → front fs ≡ [] → Way xs path link t fs (node (item link n.key n.value) leaf r) → MinReady xs path link t n fs
     min_at fs r on_right first w =
         let x : Item K V = item link n.key n.value in
         let all : (j : ℕ) → uses j (front fs) + one j link + uses j (inorder r) + uses j (back fs) ≡ uses j (inorder t) = λ j. omega (arith, ap (uses j) w.order, uses_node j x (front fs) (inorder r ++ back fs), uses_append j (inorder r) (back fs)) in
@@ -52,7 +52,7 @@ module _ {K V : Type 0} where
           climb = record {
             stands = on_right;
             along = w.along;
-            long = w.long;
+            noted = w.noted;
             once = λ j. omega (arith, stem.once j, all j, parts j);
             avl = w.avl.2;
             lvl = w.lvl;
@@ -76,11 +76,11 @@ module _ {K V : Type 0} where
               };
         }
 
-    pub min_ready : (lw : Leftward xs path deep link t) → n.left ≡ none → MinReady xs path deep link t n lw.fs
+    pub min_ready : (lw : Leftward xs path link t) → n.left ≡ none → MinReady xs path link t n lw.fs
     min_ready lw e =
         let o = opened xs link n lw.sub lw.way.stands lw.some read in
         let is : lw.sub ≡ node (item link n.key n.value) leaf o.r = o.is ∙ ap (λ (l : Tree K V). node (item link n.key n.value) l o.r) (empty_leaf xs n.left o.l o.on_left e) in
-        min_at lw.fs o.r o.on_right lw.first (subst (λ (s : Tree K V). Way xs path deep link t lw.fs s) is lw.way)
+        min_at lw.fs o.r o.on_right lw.first (subst (λ (s : Tree K V). Way xs path link t lw.fs s) is lw.way)
 
   module _ (xs : List (Node K V)) (root : ℕ) (t : Tree K V) (n : Node K V) (stem : Stem xs root t) (read : slice_get xs root ≡ Some n) where
     pub lift_leaf : n.right ≡ none → Lifted xs xs root n.left t
@@ -154,11 +154,11 @@ module _ {K V : Type 0} where
         let o = opened xs root n t stem.stands stem.some read in
         (o.l, o.r, lift_at o.l o.r o.is some o.on_left o.on_right)
 
-  module _ (before : K → K → Bool) (key : K) (xs : List (Node K V)) (path : List Step) (deep link root : ℕ) (t : Tree K V) (whole : Whole before xs root t) (low : tall t ≤ 14) (d : Descent before (Under before key) (Over before key) xs path deep link t) where
+  module _ (before : K → K → Bool) (key : K) (xs : List (Node K V)) (path : List Step) (link root : ℕ) (t : Tree K V) (whole : Whole before xs root t) (low : tall t ≤ 14) (d : Descent before (Under before key) (Over before key) xs path link t) where
     -- the key is not there
     pub absent : link ≡ none → Absent before key (inorder t)
     absent e =
-        let w = subst (λ (s : Tree K V). Walk before (Under before key) (Over before key) xs path deep link t d.fs s) (empty_leaf xs link d.sub d.walk.way.stands e) d.walk in
+        let w = subst (λ (s : Tree K V). Walk before (Under before key) (Over before key) xs path link t d.fs s) (empty_leaf xs link d.sub d.walk.way.stands e) d.walk in
         record { a = front d.fs; b = back d.fs; parts = sym w.way.order; early = w.early; late = w.late }
 
     all : (j : ℕ) → uses j (front d.fs) + uses j (inorder d.sub) + uses j (back d.fs) ≡ uses j (inorder t)
@@ -198,14 +198,14 @@ module _ {K V : Type 0} where
           }
 
     module _ (ys : List (Node K V)) (i : ℕ) (f : Lifted xs ys link i d.sub) where
-      pub lifted_climb : Climb ys path deep i d.fs f.tree (tall d.sub)
+      pub lifted_climb : Climb ys path i d.fs f.tree (tall d.sub)
       lifted_climb =
           let cut-uses : (j : ℕ) → uses j (inorder d.sub) ≡ uses j f.a + (one j link + uses j f.b) = λ j. ap (uses j) f.cut ∙ uses_node j (item link f.n.key f.n.value) f.a f.b in
           let left-uses : (j : ℕ) → uses j (inorder f.tree) ≡ uses j f.a + uses j f.b = λ j. ap (uses j) f.order ∙ uses_append j f.a f.b in
           record {
             stands = f.stands;
-            along = along_frame xs ys path d.fs (λ j u. f.same j (omega (arith, whole.once j, all j, cut-uses j, uses_append j f.a f.b))) d.walk.way.along;
-            long = d.walk.way.long;
+            along = along_frame xs ys d.fs (λ j u. f.same j (omega (arith, whole.once j, all j, cut-uses j, uses_append j f.a f.b))) d.walk.way.along;
+            noted = d.walk.way.noted;
             once = λ j. omega (arith, whole.once j, all j, cut-uses j, left-uses j, uses_append j (front d.fs) (inorder f.tree ++ back d.fs), uses_append j (inorder f.tree) (back d.fs));
             avl = f.avl;
             lvl = d.walk.way.lvl;

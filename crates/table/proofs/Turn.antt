@@ -149,13 +149,13 @@ module _ {K V : Type 0} where
   heavy_within s xs x heavy light h l room big = link_within xs heavy h (pieces s xs x heavy light h l room).on_near (heavy_link s xs x heavy light h l room big)
 
   -- The double turn: x stands over (a y (b z c)) and d.
-  pub record Double (s : Bool) (xs : List (Node K V)) (x y : Item K V) (inner outer near far light : ℕ) (m : Node K V) (a h d : Tree K V) : Type 0 where
+  pub record Double (s : Bool) (xs : List (Node K V)) (x y z : Item K V) (outer near far light : ℕ) (a h d : Tree K V) : Type 0 where
     pub b : Tree K V
     pub c : Tree K V
     pub first : RoomOn s xs y outer near a b
     pub second : (ys : List (Node K V)) (i : ℕ) → JoinedOn s xs ys i y a b → RoomOn s ys x far light c d
-    pub third : (ys zs : List (Node K V)) (i k : ℕ) → JoinedOn s xs ys i y a b → JoinedOn s ys zs k x c d → RoomOn s zs (item inner m.key m.value) i k (node_on s y a b) (node_on s x c d)
-    pub done : (ys zs ws : List (Node K V)) (i k u : ℕ) → JoinedOn s xs ys i y a b → JoinedOn s ys zs k x c d → JoinedOn s zs ws u (item inner m.key m.value) (node_on s y a b) (node_on s x c d) → Mended xs ws u (row_on s (inorder h) x (inorder d)) (tall h)
+    pub third : (ys zs : List (Node K V)) (i k : ℕ) → JoinedOn s xs ys i y a b → JoinedOn s ys zs k x c d → RoomOn s zs z i k (node_on s y a b) (node_on s x c d)
+    pub done : (ys zs ws : List (Node K V)) (i k u : ℕ) → JoinedOn s xs ys i y a b → JoinedOn s ys zs k x c d → JoinedOn s zs ws u z (node_on s y a b) (node_on s x c d) → Mended xs ws u (row_on s (inorder h) x (inorder d)) (tall h)
 
   module _ (s : Bool) (xs : List (Node K V)) (x y : Item K V) (outer light : ℕ) (a d : Tree K V) (on-a : Stands xs outer a) (on-d : Stands xs light d) (x-within : x.at < length xs) (x-linkable : x.at < none) (y-within : y.at < length xs) (y-linkable : y.at < none) (a-avl : Avl a) (d-avl : Avl d) where
     -- the single turn: x stands over (a y i) and d
@@ -259,19 +259,19 @@ module _ {K V : Type 0} where
           }
 
   -- A turn once the top of the heavy side is read: what its calls ask, and what they come to.
-  pub record Turning (s : Bool) (xs : List (Node K V)) (x : Item K V) (heavy light outer inner : ℕ) (n : Node K V) (h l : Tree K V) : Type 0 where
+  pub record Turning (s : Bool) (xs : List (Node K V)) (x y : Item K V) (light outer inner : ℕ) (h l : Tree K V) : Type 0 where
     pub o : Tree K V
     pub i : Tree K V
     pub on_outer : Stands xs outer o
     pub on_inner : Stands xs inner i
     pub low : RoomOn s xs x inner light i l
-    pub top : (ys : List (Node K V)) (k : ℕ) → JoinedOn s xs ys k x i l → RoomOn s ys (item heavy n.key n.value) outer k o (node_on s x i l)
-    pub single : (ys zs : List (Node K V)) (k u : ℕ) → tall i ≤ tall o → JoinedOn s xs ys k x i l → JoinedOn s ys zs u (item heavy n.key n.value) o (node_on s x i l) → Mended xs zs u (row_on s (inorder h) x (inorder l)) (tall h)
+    pub top : (ys : List (Node K V)) (k : ℕ) → JoinedOn s xs ys k x i l → RoomOn s ys y outer k o (node_on s x i l)
+    pub single : (ys zs : List (Node K V)) (k u : ℕ) → tall i ≤ tall o → JoinedOn s xs ys k x i l → JoinedOn s ys zs u y o (node_on s x i l) → Mended xs zs u (row_on s (inorder h) x (inorder l)) (tall h)
     pub inner_within : tall o < tall i → inner < length xs
-    pub double : tall o < tall i → (m : Node K V) → slice_get xs inner ≡ Some m → (near far : ℕ) → near ≡ child_on s m → far ≡ child_on (not s) m → Double s xs x (item heavy n.key n.value) inner outer near far light m o h l
+    pub double : tall o < tall i → (m : Node K V) → slice_get xs inner ≡ Some m → (near far : ℕ) → near ≡ child_on s m → far ≡ child_on (not s) m → (z : Item K V) → z ≡ item inner m.key m.value → Double s xs x y z outer near far light o h l
 
   module _ (s : Bool) (xs : List (Node K V)) (x : Item K V) (heavy light : ℕ) (n : Node K V) (h l : Tree K V) (room : RoomOn s xs x heavy light h l) (big : Heavy h l) (read : slice_get xs heavy ≡ Some n) where
-    at_top : (o i : Tree K V) → h ≡ node_on s (item heavy n.key n.value) o i → Stands xs (child_on s n) o → Stands xs (child_on (not s) n) i → heavy < none → Turning s xs x heavy light (child_on s n) (child_on (not s) n) n h l
+    at_top : (o i : Tree K V) → h ≡ node_on s (item heavy n.key n.value) o i → Stands xs (child_on s n) o → Stands xs (child_on (not s) n) i → heavy < none → Turning s xs x (item heavy n.key n.value) light (child_on s n) (child_on (not s) n) h l
     at_top o i is on-o on-i linkable =
         let y : Item K V = item heavy n.key n.value in
         let p = pieces s xs x heavy light h l room in
@@ -291,7 +291,7 @@ module _ {K V : Type 0} where
           top = single_top s xs x y (child_on s n) light o l on-o p.on_far p.within p.linkable y-within linkable avl.1 big.avl_light (child_on (not s) n) i on-i avl.2 once avl.0 gap low;
           single = λ ys zs k u test j1 j2. back zs u (node_on s y o i) is (single_done s xs x y (child_on s n) light o l on-o p.on_far p.within p.linkable y-within linkable avl.1 big.avl_light (child_on (not s) n) i on-i avl.2 once avl.0 gap low ys zs k u test j1 j2);
           inner_within = λ test. link_within xs (child_on (not s) n) i on-i (λ e. omega (arith, test, empty_tall xs (child_on (not s) n) i on-i e));
-          double = λ test m e near far near-is far-is.
+          double = λ test m e near far near-is far-is z-2 z-is.
               let k = opened_on s xs (child_on (not s) n) m i on-i (λ e. omega (arith, test, empty_tall xs (child_on (not s) n) i on-i e)) e in
               let z : Item K V = item (child_on (not s) n) m.key m.value in
               let inner-avl = avl_off s z k.near k.far (subst Avl k.is avl.2) in
@@ -303,17 +303,17 @@ module _ {K V : Type 0} where
               let gap-2 : max (tall o) (max (tall k.near) (tall k.far) + 1) + 1 ≡ tall l + 2 = subst (λ (q : ℕ). max (tall o) q + 1 ≡ tall l + 2) inner-high gap in
               let low-2 : max (tall o) (max (tall k.near) (tall k.far) + 1) + 1 ≤ 100 = subst (λ (q : ℕ). max (tall o) q + 1 ≤ 100) inner-high low in
               let is-2 : h ≡ node_on s y o (node_on s z k.near k.far) = is ∙ ap (λ (t : Tree K V). node_on s y o t) k.is in
-              record {
+              rw z-is (record {
                 b = k.near;
                 c = k.far;
                 first = double_first s xs x y (child_on s n) light o l on-o p.on_far p.within p.linkable y-within linkable avl.1 big.avl_light z near far k.near k.far on-b on-c k.within k.linkable inner-avl.1 inner-avl.2 once-2 near-1 inner-avl.0 gap-2 low-2;
                 second = double_second s xs x y (child_on s n) light o l on-o p.on_far p.within p.linkable y-within linkable avl.1 big.avl_light z near far k.near k.far on-b on-c k.within k.linkable inner-avl.1 inner-avl.2 once-2 near-1 inner-avl.0 gap-2 low-2;
                 third = double_third s xs x y (child_on s n) light o l on-o p.on_far p.within p.linkable y-within linkable avl.1 big.avl_light z near far k.near k.far on-b on-c k.within k.linkable inner-avl.1 inner-avl.2 once-2 near-1 inner-avl.0 gap-2 low-2;
                 done = λ ys zs ws a b u j1 j2 j3. back ws u (node_on s y o (node_on s z k.near k.far)) is-2 (double_done s xs x y (child_on s n) light o l on-o p.on_far p.within p.linkable y-within linkable avl.1 big.avl_light z near far k.near k.far on-b on-c k.within k.linkable inner-avl.1 inner-avl.2 once-2 near-1 inner-avl.0 gap-2 low-2 ys zs ws a b u (omega (arith, test, inner-high)) j1 j2 j3);
-              };
+              });
         }
 
-    pub turning : (outer inner : ℕ) → outer ≡ child_on s n → inner ≡ child_on (not s) n → Turning s xs x heavy light outer inner n h l
-    turning outer inner e f =
+    pub turning : (outer inner : ℕ) → outer ≡ child_on s n → inner ≡ child_on (not s) n → (y : Item K V) → y ≡ item heavy n.key n.value → Turning s xs x y light outer inner h l
+    turning outer inner e f y y-is =
         let k = opened_on s xs heavy n h (pieces s xs x heavy light h l room).on_near (heavy_link s xs x heavy light h l room big) read in
-        rw (e, f) (at_top k.near k.far k.is k.on_near k.on_far k.linkable)
+        rw (e, f, y-is) (at_top k.near k.far k.is k.on_near k.on_far k.linkable)

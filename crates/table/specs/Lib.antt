@@ -8,6 +8,6 @@ pub mod Remove
 pub mod Change
 pub mod Parts
 pub mod Sound
-pub mod StartTable
-pub mod LengthTable
+pub mod OneWay
+pub mod Table
 pub mod Least

@@ -32,17 +32,22 @@ abbrev pub Lvl : {K V : Type 0} → List (Frame K V) → ℕ → Type 0
 Lvl [] h = Unit {0}
 Lvl (on s x o ∷ fs) h = Near h (tall o) × Avl o × Lvl fs (max h (tall o) + 1)
 
--- The slice holds the nodes of the way with their other sides, and path names them. What the records say of the
--- side of the way, and of heights, is left open.
-abbrev pub Along : {K V : Type 0} → List (Node K V) → List Step → List (Frame K V) → Type 0
-Along xs path [] = Unit {0}
-Along {K} {V} xs path (on s x o ∷ fs) = (x.at < none) × ((n : Node K V) × (slice_get xs x.at ≡ Some n) × (item x.at n.key n.value ≡ x) × (child_on (not s) n ≡ ptr o)) × Rep xs o × (slice_get path (length fs) ≡ Some (record { at = x.at; left = s })) × Along xs path fs
+-- The slice holds the nodes of the way with their other sides. What the records say of the side of the way, and of heights,
+-- is left open.
+abbrev pub Along : {K V : Type 0} → List (Node K V) → List (Frame K V) → Type 0
+Along xs [] = Unit {0}
+Along {K} {V} xs (on s x o ∷ fs) = (x.at < none) × ((n : Node K V) × (slice_get xs x.at ≡ Some n) × (item x.at n.key n.value ≡ x) × (child_on (not s) n ≡ ptr o)) × Rep xs o × Along xs fs
+
+-- the steps of the way, from the root down
+abbrev pub steps : {K V : Type 0} → List (Frame K V) → List Step
+steps [] = []
+steps (on s x o ∷ fs) = steps fs ++ record { at = x.at; left = s } ∷ []
 
 -- a tree t stands at the end of a way that fitted one of height h
-pub record Climb {K V : Type 0} (xs : List (Node K V)) (path : List Step) (deep link : ℕ) (fs : List (Frame K V)) (t : Tree K V) (h : ℕ) : Type 0 where
+pub record Climb {K V : Type 0} (xs : List (Node K V)) (path : List Step) (link : ℕ) (fs : List (Frame K V)) (t : Tree K V) (h : ℕ) : Type 0 where
   pub stands : Stands xs link t
-  pub along : Along xs path fs
-  pub long : deep ≡ length fs
+  pub along : Along xs fs
+  pub noted : path ≡ steps fs
   pub once : Once (front fs ++ (inorder t ++ back fs))
   pub avl : Avl t
   pub lvl : Lvl fs h
@@ -59,11 +64,11 @@ pub record Climbed {K V : Type 0} (xs ys : List (Node K V)) (link : ℕ) (items 
   pub same : (j : ℕ) → uses j items ≡ 0 → slice_get ys j ≡ slice_get xs j
 
 -- how far the climb has come: the items and the height are those it began with
-pub record Progress {K V : Type 0} (xs ys : List (Node K V)) (path : List Step) (i link : ℕ) (items : List (Item K V)) (high : ℕ) : Type 0 where
+pub record Progress {K V : Type 0} (xs ys : List (Node K V)) (path : List Step) (link : ℕ) (items : List (Item K V)) (high : ℕ) : Type 0 where
   pub fs : List (Frame K V)
   pub tree : Tree K V
   pub h : ℕ
-  pub climb : Climb ys path i link fs tree h
+  pub climb : Climb ys path link fs tree h
   pub order : front fs ++ (inorder tree ++ back fs) ≡ items
   pub high_is : top fs h ≡ high
   pub long : length ys ≡ length xs

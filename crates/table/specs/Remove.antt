@@ -17,10 +17,10 @@ pub record Stem {K V : Type 0} (xs : List (Node K V)) (link : ℕ) (t : Tree K V
   pub low : tall t ≤ 14
 
 -- a way down that goes left only
-pub record Leftward {K V : Type 0} (xs : List (Node K V)) (path : List Step) (deep link : ℕ) (t : Tree K V) : Type 0 where
+pub record Leftward {K V : Type 0} (xs : List (Node K V)) (path : List Step) (link : ℕ) (t : Tree K V) : Type 0 where
   pub fs : List (Frame K V)
   pub sub : Tree K V
-  pub way : Way xs path deep link t fs sub
+  pub way : Way xs path link t fs sub
   pub some : link ≢ none
   pub first : front fs ≡ []
 

@@ -6,7 +6,7 @@ use Rattle.table.specs.declared.tree.path.Step.{Step}
 use Rattle.table.specs.Tree.{Item, Tree, none, tall, inorder, uses, Avl, Stands}
 use Rattle.table.specs.Edit.{Once}
 use Rattle.table.specs.Pairs.{Each}
-use Rattle.table.specs.Path.{Frame, front, back, top, Lvl, Along}
+use Rattle.table.specs.Path.{Frame, front, back, top, Lvl, Along, steps}
 
 -- each comes before all that follow it
 abbrev pub Sorted : {K V : Type 0} → (K → K → Bool) → List (Item K V) → Type 0
@@ -35,27 +35,27 @@ pub record Became {K V : Type 0} (before : K → K → Bool) (xs ys : List (Node
   pub same : (j : ℕ) → uses j items ≡ 0 → slice_get ys j ≡ slice_get xs j
 
 -- a way down the tree t has come to the tree sub at a link
-pub record Way {K V : Type 0} (xs : List (Node K V)) (path : List Step) (deep link : ℕ) (t : Tree K V) (fs : List (Frame K V)) (sub : Tree K V) : Type 0 where
+pub record Way {K V : Type 0} (xs : List (Node K V)) (path : List Step) (link : ℕ) (t : Tree K V) (fs : List (Frame K V)) (sub : Tree K V) : Type 0 where
   pub stands : Stands xs link sub
-  pub along : Along xs path fs
-  pub long : deep ≡ length fs
+  pub along : Along xs fs
+  pub noted : path ≡ steps fs
   pub order : front fs ++ (inorder sub ++ back fs) ≡ inorder t
   pub avl : Avl sub
   pub lvl : Lvl fs (tall sub)
   pub high : top fs (tall sub) ≡ tall t
-  pub space : deep + tall sub ≤ length path
+  pub space : length path + tall sub ≤ 14
 
 -- and it leaves on its left only keys of E, and on its right only keys of L
-pub record Walk {K V : Type 0} (before : K → K → Bool) (E L : K → Type 0) (xs : List (Node K V)) (path : List Step) (deep link : ℕ) (t : Tree K V) (fs : List (Frame K V)) (sub : Tree K V) : Type 0 where
-  pub way : Way xs path deep link t fs sub
+pub record Walk {K V : Type 0} (before : K → K → Bool) (E L : K → Type 0) (xs : List (Node K V)) (path : List Step) (link : ℕ) (t : Tree K V) (fs : List (Frame K V)) (sub : Tree K V) : Type 0 where
+  pub way : Way xs path link t fs sub
   pub sorted : Sorted before (inorder sub)
   pub early : Each (λ (a : Item K V). E a.key) (front fs)
   pub late : Each (λ (a : Item K V). L a.key) (back fs)
 
-pub record Descent {K V : Type 0} (before : K → K → Bool) (E L : K → Type 0) (xs : List (Node K V)) (path : List Step) (deep link : ℕ) (t : Tree K V) : Type 0 where
+pub record Descent {K V : Type 0} (before : K → K → Bool) (E L : K → Type 0) (xs : List (Node K V)) (path : List Step) (link : ℕ) (t : Tree K V) : Type 0 where
   pub fs : List (Frame K V)
   pub sub : Tree K V
-  pub walk : Walk before E L xs path deep link t fs sub
+  pub walk : Walk before E L xs path link t fs sub
 
 -- the keys that come before key, and those that it comes before
 abbrev pub Under : {K : Type 0} → (K → K → Bool) → K → K → Type 0

@@ -2,12 +2,7 @@
 use Rattle.std.specs.Prelude.{◌≡◌, ℕ, ◌+◌, ◌<◌, ◌≤◌, max, cond, List, [], ◌∷◌, ◌++◌, Some, ◌==◌}
 use Rattle.std.specs.List.{slice_get}
 use Rattle.table.specs.declared.node.Node.{Node}
-
--- A node's place in the slice, its key and its value.
-pub record Item (K V : Type 0) : Type 0 where
-  pub at : ℕ
-  pub key : K
-  pub value : V
+pub use Rattle.table.specs.declared.node.Item.{Item}
 
 pub data Tree (K V : Type 0) : Type 0 where
   leaf : Tree K V

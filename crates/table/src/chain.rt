@@ -13,14 +13,11 @@ pub(crate) fn give_back<K: Copy, V: Copy>(nodes: &mut [Node<K, V>], next: u16, a
     requires { at < length nodes.old }
     ensures { (n : Node K V) → slice_get nodes.old at ≡ Some n → nodes.new ≡ slice_set nodes.old at (spare n.key n.value next) }
 {
-    let n = read(nodes, at);
-    let (key, value) = (n.key, n.value);
     nodes[at as usize] = Node {
-        key,
-        value,
         left: next,
         right: NONE,
         height: 0,
+        ..*read(nodes, at)
     };
 }
 
@@ -30,10 +27,7 @@ pub(crate) fn chain_all<K: Copy, V: Copy>(nodes: &mut [Node<K, V>]) -> u16
     ensures { (us : List (Item K V)) × Chain nodes.new us × (result ≡ front_at us) × ((j : ℕ) → j < length nodes.new → uses j us ≡ 1) }
 {
     let mut unused = NONE;
-    let mut i = nodes.len();
-    while i > 0 {
-        i -= 1;
-        let at = i as u16;
+    for at in (0..nodes.len() as u16).rev() {
         give_back(nodes, unused, at);
         unused = at;
     }

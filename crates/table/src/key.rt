@@ -26,20 +26,19 @@ impl Key for u64 {
     }
 }
 
-// A length, and where it starts.
-#[derive(Clone, Copy, PartialEq, Eq, Debug)]
+// A length, and where it starts: the shorter one first, and of two equally long ones the one that starts lower.
+#[derive(Clone, Copy, PartialEq, Eq, PartialOrd, Ord, Debug, Default)]
 pub struct LengthKey {
     pub len: u64,
     pub start: u64,
 }
 
-// The shorter one first, and of two equally long ones the one that starts lower.
 impl Key for LengthKey {
     ghost before = { shorter };
 
     ghost ordered = { Prim.search rules };
 
     fn precedes(self, other: LengthKey) -> bool {
-        (self.len < other.len) | ((self.len == other.len) & (self.start < other.start))
+        self < other
     }
 }

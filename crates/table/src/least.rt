@@ -16,9 +16,5 @@ pub fn least_nodes(height: usize) -> Option<u64>
     ensures fewest { (t : Shape) → Avl t → tall t ≡ height → Fewest result (length (inorder t)) }
     ensures low { (t : Shape) → Avl t → length (inorder t) ≤ 1024 → tall t ≤ 14 }
 {
-    if height < 16 {
-        Some(LEAST[height])
-    } else {
-        None
-    }
+    LEAST.get(height).copied()
 }

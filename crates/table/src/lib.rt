@@ -4,14 +4,11 @@
 mod chain;
 pub mod key;
 pub mod least;
-pub mod length_table;
 pub mod node;
-mod records;
-pub mod start_table;
+pub mod table;
 mod tree;
 
 pub use key::{Key, LengthKey};
 pub use least::least_nodes;
-pub use length_table::LengthTable;
 pub use node::{Beside, Entry};
-pub use start_table::StartTable;
+pub use table::{LengthTable, StartTable, Table};

@@ -1,6 +1,8 @@
 // The records of a table, and what a table answers.
+ghost use Rattle.std.specs.Prelude.{◌≡◌};
+ghost use Rattle.table.specs.Edit.{item, child_on};
 
-// The link to no record.
+// The link to no record. A rule of the project needs it in place of an `Option<u16>`: memory is fixed, and a record small.
 pub(crate) const NONE: u16 = 65535;
 
 // How many records a table has.
@@ -14,6 +16,34 @@ pub(crate) struct Node<K, V> {
     pub(crate) left: u16,
     pub(crate) right: u16,
     pub(crate) height: u8,
+}
+
+// A node of a tree: the place of its record, its key and its value.
+#[derive(Clone, Copy)]
+pub(crate) struct Item<K, V> {
+    pub(crate) at: u16,
+    pub(crate) key: K,
+    pub(crate) value: V,
+}
+
+impl<K: Copy, V: Copy> Node<K, V> {
+    // The node of a tree that the record at a place is.
+    pub(crate) fn item(&self, at: u16) -> Item<K, V>
+        ensures { result ≡ item at self.now.key self.now.value }
+    {
+        Item {
+            at,
+            key: self.key,
+            value: self.value,
+        }
+    }
+
+    // The link of one side.
+    pub(crate) fn child(&self, left: bool) -> u16
+        ensures { result ≡ child_on left self.now }
+    {
+        if left { self.left } else { self.right }
+    }
 }
 
 // Where the tree and the chain of unused records begin, and how many records the tree has.

@@ -61,9 +61,9 @@ fn both_sides_of_a_start(rt: HostRuntime) {
 fn spans_in_order(rt: HostRuntime) {
     let mut table = LengthTable::new();
     for number in 0..1024 {
-        assert!(rt; table.insert(span_of(number)));
+        assert!(rt; table.insert(span_of(number), ()));
     }
-    assert!(rt; !table.insert(span_of(1024)));
+    assert!(rt; !table.insert(span_of(1024), ()));
     assert_eq!(rt; number_of(table.last()), 1023);
     for number in 0..1024 {
         assert_eq!(rt; number_of(table.lowest_from(span_of(0))), number as u64);

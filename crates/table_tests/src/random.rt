@@ -73,7 +73,7 @@ fn spans(rt: HostRuntime) {
         let had = there[at] != 0;
         assert_eq!(rt; table.get(span_of(at)).is_some(), had);
         if seed >> 63 == 0 {
-            let took = table.insert(span_of(at));
+            let took = table.insert(span_of(at), ());
             assert_eq!(rt; took, !had && count < 1024);
             if took {
                 there[at] = 1;

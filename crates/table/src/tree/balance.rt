@@ -2,9 +2,9 @@
 ghost use Rattle.std.specs.Prelude.{◌≡◌, ◌+◌, ◌<◌, length, Some};
 ghost use Rattle.std.specs.List.{slice_get};
 ghost use Rattle.table.specs.Tree.{Tree, Stands, tall, inorder};
-ghost use Rattle.table.specs.Edit.{item, Room, Joined, Mended, Heavy, Uneven, Balanced, RoomOn, JoinedOn, row_on, child_on};
+ghost use Rattle.table.specs.Edit.{Room, Joined, Mended, Heavy, Uneven, Balanced, RoomOn, JoinedOn, row_on};
 
-use crate::node::{NONE, Node};
+use crate::node::{Item, NONE, Node};
 
 // Lends the record at a link, to be read field by field.
 pub(crate) fn read<K: Copy, V: Copy>(nodes: &[Node<K, V>], link: u16) -> &Node<K, V>
@@ -29,81 +29,68 @@ fn height<K: Copy, V: Copy>(nodes: &[Node<K, V>], link: u16) -> u8
 // Puts a node over two trees.
 pub(crate) fn join<K: Copy, V: Copy>(
     nodes: &mut [Node<K, V>],
-    at: u16,
-    key: K,
-    value: V,
+    item: Item<K, V>,
     left: u16,
     right: u16,
 ) -> u16
-    requires { (l : Tree K V) × (r : Tree K V) × Room nodes.old (item at key value) left right l r }
-    ensures { (l r : Tree K V) → Room nodes.old (item at key value) left right l r → Joined nodes.old nodes.new result (item at key value) l r }
+    requires { (l : Tree K V) × (r : Tree K V) × Room nodes.old item left right l r }
+    ensures { (l r : Tree K V) → Room nodes.old item left right l r → Joined nodes.old nodes.new result item l r }
 {
     let height = height(nodes, left).max(height(nodes, right)) + 1;
-    nodes[at as usize] = Node {
-        key,
-        value,
+    nodes[item.at as usize] = Node {
+        key: item.key,
+        value: item.value,
         left,
         right,
         height,
     };
-    at
+    item.at
 }
 
 // Puts a node over two trees, the near one on the left if so asked, and else on the right.
 fn join_on<K: Copy, V: Copy>(
     nodes: &mut [Node<K, V>],
     left: bool,
-    at: u16,
-    key: K,
-    value: V,
+    item: Item<K, V>,
     near: u16,
     far: u16,
 ) -> u16
-    requires { (n : Tree K V) × (f : Tree K V) × RoomOn left nodes.old (item at key value) near far n f }
-    ensures { (n f : Tree K V) → RoomOn left nodes.old (item at key value) near far n f → JoinedOn left nodes.old nodes.new result (item at key value) n f }
+    requires { (n : Tree K V) × (f : Tree K V) × RoomOn left nodes.old item near far n f }
+    ensures { (n f : Tree K V) → RoomOn left nodes.old item near far n f → JoinedOn left nodes.old nodes.new result item n f }
 {
     if left {
-        join(nodes, at, key, value, near, far)
+        join(nodes, item, near, far)
     } else {
-        join(nodes, at, key, value, far, near)
+        join(nodes, item, far, near)
     }
-}
-
-// The link of one side of a node.
-pub(crate) fn child<K: Copy, V: Copy>(n: &Node<K, V>, left: bool) -> u16
-    ensures { result ≡ child_on left n.now }
-{
-    if left { n.left } else { n.right }
 }
 
 // Puts a node over two trees of which the heavy one, on the left if so said and else on the right, is two taller.
 fn turn<K: Copy, V: Copy>(
     nodes: &mut [Node<K, V>],
     left: bool,
-    at: u16,
-    key: K,
-    value: V,
+    item: Item<K, V>,
     heavy: u16,
     light: u16,
 ) -> u16
-    requires { (h : Tree K V) × (l : Tree K V) × RoomOn left nodes.old (item at key value) heavy light h l × Heavy h l }
-    ensures { (h l : Tree K V) → RoomOn left nodes.old (item at key value) heavy light h l → Heavy h l → Mended nodes.old nodes.new result (row_on left (inorder h) (item at key value) (inorder l)) (tall h) }
+    requires { (h : Tree K V) × (l : Tree K V) × RoomOn left nodes.old item heavy light h l × Heavy h l }
+    ensures { (h l : Tree K V) → RoomOn left nodes.old item heavy light h l → Heavy h l → Mended nodes.old nodes.new result (row_on left (inorder h) item (inorder l)) (tall h) }
 {
     let top = read(nodes, heavy);
-    let outer = child(top, left);
-    let inner = child(top, !left);
-    let (top_key, top_value) = (top.key, top.value);
+    let outer = top.child(left);
+    let inner = top.child(!left);
+    let top_item = top.item(heavy);
     if height(nodes, inner) <= height(nodes, outer) {
-        let low = join_on(nodes, left, at, key, value, inner, light);
-        join_on(nodes, left, heavy, top_key, top_value, outer, low)
+        let low = join_on(nodes, left, item, inner, light);
+        join_on(nodes, left, top_item, outer, low)
     } else {
         let mid = read(nodes, inner);
-        let near = child(mid, left);
-        let far = child(mid, !left);
-        let (mid_key, mid_value) = (mid.key, mid.value);
-        let a = join_on(nodes, left, heavy, top_key, top_value, outer, near);
-        let b = join_on(nodes, left, at, key, value, far, light);
-        join_on(nodes, left, inner, mid_key, mid_value, a, b)
+        let near = mid.child(left);
+        let far = mid.child(!left);
+        let mid_item = mid.item(inner);
+        let a = join_on(nodes, left, top_item, outer, near);
+        let b = join_on(nodes, left, item, far, light);
+        join_on(nodes, left, mid_item, a, b)
     }
 }
 
@@ -111,22 +98,20 @@ fn turn<K: Copy, V: Copy>(
 pub(crate) fn balance<K: Copy, V: Copy>(
     nodes: &mut [Node<K, V>],
     left: bool,
-    at: u16,
-    key: K,
-    value: V,
+    item: Item<K, V>,
     near: u16,
     far: u16,
 ) -> u16
-    requires { (n : Tree K V) × (f : Tree K V) × RoomOn left nodes.old (item at key value) near far n f × Uneven n f }
-    ensures { (n f : Tree K V) → RoomOn left nodes.old (item at key value) near far n f → Uneven n f → Balanced left nodes.old nodes.new result (item at key value) n f }
+    requires { (n : Tree K V) × (f : Tree K V) × RoomOn left nodes.old item near far n f × Uneven n f }
+    ensures { (n f : Tree K V) → RoomOn left nodes.old item near far n f → Uneven n f → Balanced left nodes.old nodes.new result item n f }
 {
     let on_near = height(nodes, near);
     let on_far = height(nodes, far);
     if on_near > on_far + 1 {
-        turn(nodes, left, at, key, value, near, far)
+        turn(nodes, left, item, near, far)
     } else if on_far > on_near + 1 {
-        turn(nodes, !left, at, key, value, far, near)
+        turn(nodes, !left, item, far, near)
     } else {
-        join_on(nodes, left, at, key, value, near, far)
+        join_on(nodes, left, item, near, far)
     }
 }

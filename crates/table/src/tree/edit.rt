@@ -1,15 +1,14 @@
 // Nodes put into a tree, and taken out of it.
 ghost use Rattle.std.specs.Prelude.{◌≤◌, length};
 ghost use Rattle.table.specs.Tree.{Tree};
-ghost use Rattle.table.specs.Edit.{item};
 ghost use Rattle.table.specs.Search.{Whole, Free};
 ghost use Rattle.table.specs.Remove.{Stem, MinTaken, Lifted};
 ghost use Rattle.table.specs.Change.{Inserts, Removes};
 
 use super::balance::{balance, join, read};
-use super::path::{DEEP, Step, climb, left_end, seek};
+use super::path::{climb, left_end, seek};
 use crate::key::Key;
-use crate::node::{NONE, Node};
+use crate::node::{Item, NONE, Node};
 
 // A node that was taken out, and the root of what is left of the tree.
 #[derive(Clone, Copy)]
@@ -22,21 +21,18 @@ pub(crate) struct Taken {
 pub(crate) fn insert<K: Key, V: Copy>(
     nodes: &mut [Node<K, V>],
     root: u16,
-    at: u16,
-    key: K,
-    value: V,
+    item: Item<K, V>,
 ) -> Option<u16>
-    requires tree { (t : Tree K V) × Whole K.before nodes.old root t × Free nodes.old at t }
+    requires tree { (t : Tree K V) × Whole K.before nodes.old root t × Free nodes.old item.at t }
     requires short { length nodes.old ≤ 1024 }
-    ensures { (t : Tree K V) → Whole K.before nodes.old root t → Free nodes.old at t → Inserts K.before nodes.old nodes.new (item at key value) t result }
+    ensures { (t : Tree K V) → Whole K.before nodes.old root t → Free nodes.old item.at t → Inserts K.before nodes.old nodes.new item t result }
 {
-    let mut path = [Step { at: 0, left: false }; DEEP];
-    let place = seek(nodes, root, key, &mut path);
+    let place = seek(nodes, root, item.key);
     if place.link != NONE {
         return None;
     }
-    let new = join(nodes, at, key, value, NONE, NONE);
-    Some(climb(nodes, &path, place.deep, new))
+    let new = join(nodes, item, NONE, NONE);
+    Some(climb(nodes, place.path, new))
 }
 
 // Takes the first node out of a tree.
@@ -44,10 +40,9 @@ fn take_min<K: Copy, V: Copy>(nodes: &mut [Node<K, V>], root: u16) -> Taken
     requires { (t : Tree K V) × Stem nodes.old root t }
     ensures { (t : Tree K V) → Stem nodes.old root t → MinTaken nodes.old nodes.new result.at result.rest t }
 {
-    let mut path = [Step { at: 0, left: false }; DEEP];
-    let end = left_end(nodes, root, &mut path);
+    let end = left_end(nodes, root);
     let right = read(nodes, end.link).right;
-    let rest = climb(nodes, &path, end.deep, right);
+    let rest = climb(nodes, end.path, right);
     Taken { at: end.link, rest }
 }
 
@@ -62,9 +57,8 @@ fn lift<K: Copy, V: Copy>(nodes: &mut [Node<K, V>], root: u16) -> u16
         left
     } else {
         let min = take_min(nodes, right);
-        let m = read(nodes, min.at);
-        let (key, value) = (m.key, m.value);
-        balance(nodes, false, min.at, key, value, min.rest, left)
+        let item = read(nodes, min.at).item(min.at);
+        balance(nodes, false, item, min.rest, left)
     }
 }
 
@@ -74,13 +68,12 @@ pub(crate) fn remove<K: Key, V: Copy>(nodes: &mut [Node<K, V>], root: u16, key: 
     requires short { length nodes.old ≤ 1024 }
     ensures { (t : Tree K V) → Whole K.before nodes.old root t → Removes K.before nodes.old nodes.new key t result }
 {
-    let mut path = [Step { at: 0, left: false }; DEEP];
-    let place = seek(nodes, root, key, &mut path);
+    let place = seek(nodes, root, key);
     if place.link == NONE {
         return None;
     }
     let sub = lift(nodes, place.link);
-    let rest = climb(nodes, &path, place.deep, sub);
+    let rest = climb(nodes, place.path, sub);
     Some(Taken {
         at: place.link,
         rest,

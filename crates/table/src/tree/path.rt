@@ -1,117 +1,95 @@
 // Ways through a tree: down from the root, noted step by step, and back up.
-ghost use Rattle.std.specs.Prelude.{◌≡◌, ℕ, ◌+◌, ◌<◌, ◌≤◌, List, ◌++◌, length, set, Some};
-ghost use Rattle.std.specs.List.{slice_get};
+ghost use Rattle.std.specs.Prelude.{◌≡◌, ℕ, ◌≤◌, List, ◌++◌};
 ghost use Rattle.table.specs.Tree.{Tree, tall, inorder};
 ghost use Rattle.table.specs.Path.{Frame, Climb, Climbed, front, back, top};
 ghost use Rattle.table.specs.Search.{Whole, Descent, Under, Over, Keyed};
 ghost use Rattle.table.specs.Remove.{Stem, Leftward, LeftEnd};
 
-use super::balance::{balance, child, read};
+use super::balance::{balance, read};
 use crate::key::Key;
 use crate::node::{NONE, Node};
-
-// The most nodes on a way down a tree of at most 1,024.
-pub(crate) const DEEP: usize = 14;
+use arrayvec::ArrayVec;
 
 // One step of a way down: the node that it leaves, and to which side.
-#[derive(Clone, Copy)]
+#[derive(Clone, Copy, Default)]
 pub(crate) struct Step {
     pub(crate) at: u16,
     pub(crate) left: bool,
 }
 
-// The end of a way down: how many steps it has, and the link that it came to.
-#[derive(Clone, Copy)]
+// The most steps of a way down a tree of at most 1,024 nodes.
+const DEEP: usize = 14;
+
+// The steps of a way down, from the root on.
+pub(crate) type Path = ArrayVec<Step, DEEP>;
+
+// The end of a way down: its steps, and the link that it came to.
+#[derive(Drop)]
 pub(crate) struct Place {
-    pub(crate) deep: usize,
+    pub(crate) path: Path,
     pub(crate) link: u16,
 }
 
-// One step of a way.
-fn step_at(path: &[Step], i: usize) -> Step
-    requires { i < length path.now }
-    ensures { slice_get path.now i ≡ Some result }
-{
-    path[i]
-}
-
-// Notes one more step of a way, and answers how many it has then.
-fn note(path: &mut [Step], deep: usize, at: u16, left: bool) -> usize
-    requires { deep < length path.old }
-    ensures noted { path.new ≡ set path.old deep (record { at = at; left = left }) }
-    ensures longer { result ≡ deep + 1 }
-{
-    path[deep] = Step { at, left };
-    deep + 1
-}
-
 // Goes back up a way, and balances each node of it over the tree that is new below.
-pub(crate) fn climb<K: Copy, V: Copy>(
-    nodes: &mut [Node<K, V>],
-    path: &[Step],
-    deep: usize,
-    link: u16,
-) -> u16
-    requires { (fs : List (Frame K V)) × (t : Tree K V) × (h : ℕ) × Climb nodes.old path.now deep link fs t h }
-    ensures { (fs : List (Frame K V)) (t : Tree K V) (h : ℕ) → Climb nodes.old path.now deep link fs t h → Climbed nodes.old nodes.new result (front fs ++ (inorder t ++ back fs)) (top fs h) }
+pub(crate) fn climb<K: Copy, V: Copy>(nodes: &mut [Node<K, V>], path: Path, link: u16) -> u16
+    requires { (fs : List (Frame K V)) × (t : Tree K V) × (h : ℕ) × Climb nodes.old path.items link fs t h }
+    ensures { (fs : List (Frame K V)) (t : Tree K V) (h : ℕ) → Climb nodes.old path.items link fs t h → Climbed nodes.old nodes.new result (front fs ++ (inorder t ++ back fs)) (top fs h) }
 {
+    let mut path = path;
     let mut sub = link;
-    let mut i = deep;
-    while i > 0 {
-        i -= 1;
-        let step = step_at(path, i);
+    while let Some(step) = path.pop() {
         let n = read(nodes, step.at);
-        let other = child(n, !step.left);
-        let (key, value) = (n.key, n.value);
-        sub = balance(nodes, step.left, step.at, key, value, sub, other);
+        let other = n.child(!step.left);
+        let item = n.item(step.at);
+        sub = balance(nodes, step.left, item, sub, other);
     }
     sub
 }
 
-// Goes down to the node of a key, or to no node where there is none, and notes the way.
-pub(crate) fn seek<K: Key, V: Copy>(
-    nodes: &[Node<K, V>],
-    root: u16,
-    key: K,
-    path: &mut [Step],
-) -> Place
-    requires { (t : Tree K V) × Whole K.before nodes.now root t × (tall t ≤ length path.old) }
-    ensures { (t : Tree K V) → Whole K.before nodes.now root t → tall t ≤ length path.old → Descent K.before (Under K.before key) (Over K.before key) nodes.now path.new result.deep result.link t × Keyed nodes.now result.link key }
+// Goes down to the node of a key, or to no node where there is none.
+pub(crate) fn seek<K: Key, V: Copy>(nodes: &[Node<K, V>], root: u16, key: K) -> Place
+    requires { (t : Tree K V) × Whole K.before nodes.now root t × (tall t ≤ 14) }
+    ensures { (t : Tree K V) → Whole K.before nodes.now root t → tall t ≤ 14 → Descent K.before (Under K.before key) (Over K.before key) nodes.now result.path.items result.link t × Keyed nodes.now result.link key }
 {
-    let mut deep = 0;
+    let mut path = Path::new();
     let mut link = root;
     while link != NONE {
         let n = read(nodes, link);
         if key.precedes(n.key) {
-            deep = note(path, deep, link, true);
+            path.push(Step {
+                at: link,
+                left: true,
+            });
             link = n.left;
         } else if n.key.precedes(key) {
-            deep = note(path, deep, link, false);
+            path.push(Step {
+                at: link,
+                left: false,
+            });
             link = n.right;
         } else {
-            return Place { deep, link };
+            break;
         }
     }
-    Place { deep, link: NONE }
+    Place { path, link }
 }
 
-// Goes down to the first node of a tree, and notes the way.
-pub(crate) fn left_end<K: Copy, V: Copy>(
-    nodes: &[Node<K, V>],
-    root: u16,
-    path: &mut [Step],
-) -> Place
-    requires { (t : Tree K V) × Stem nodes.now root t × (tall t ≤ length path.old) }
-    ensures { (t : Tree K V) → Stem nodes.now root t → tall t ≤ length path.old → Leftward nodes.now path.new result.deep result.link t × LeftEnd nodes.now result.link }
+// Goes down to the first node of a tree.
+pub(crate) fn left_end<K: Copy, V: Copy>(nodes: &[Node<K, V>], root: u16) -> Place
+    requires { (t : Tree K V) × Stem nodes.now root t }
+    ensures { (t : Tree K V) → Stem nodes.now root t → Leftward nodes.now result.path.items result.link t × LeftEnd nodes.now result.link }
 {
-    let mut deep = 0;
+    let mut path = Path::new();
     let mut link = root;
     loop {
         let n = read(nodes, link);
         if n.left == NONE {
-            return Place { deep, link };
+            return Place { path, link };
         }
-        deep = note(path, deep, link, true);
+        path.push(Step {
+            at: link,
+            left: true,
+        });
         link = n.left;
     }
 }

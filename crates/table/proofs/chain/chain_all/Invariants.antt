@@ -1,9 +1,6 @@
--- What `chain_all` keeps at each turn: the records from `i` on are chained.
+-- What `chain_all` keeps at each turn: the records from `at` on are chained.
 use Rattle.table.proofs.Unused.{Chaining}
 use Rattle.table.proofs.chain.chain_all.Given as goal
 
-abbrev pub invariant-loop-i : goal.invariant-loop-i
-invariant-loop-i g l = Chaining l.nodes l.i l.unused
-
-abbrev pub decreases-loop-i : goal.decreases-loop-i
-decreases-loop-i g l = l.i
+abbrev pub invariant-loop-at : goal.invariant-loop-at
+invariant-loop-at g l = Chaining l.nodes l.at l.unused

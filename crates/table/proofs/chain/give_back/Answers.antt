@@ -5,11 +5,5 @@ use Rattle.table.specs.Sound.{spare}
 use Rattle.table.proofs.Model.{same_some}
 use Rattle.table.proofs.chain.give_back.Goals as goal
 
-pub read-n-requires : goal.read-n-requires
-read-n-requires g c = c.requires
-
-pub bounds-nodes-at : goal.bounds-nodes-at
-bounds-nodes-at g c = c.requires
-
 pub returns : goal.returns
-returns g c = λ n e. ap (λ (m : Node g.row.K.Denot g.row.V.Denot). set c.args.nodes.now c.args.at (spare m.key m.value c.args.next)) (same_some _ _ (sym c.read-n.ensures ∙ e))
+returns g c = λ n e. ap (λ (m : Node g.row.K.Denot g.row.V.Denot). set c.args.nodes.now c.args.at (spare m.key m.value c.args.next)) (same_some _ _ (sym c.read.ensures ∙ e))

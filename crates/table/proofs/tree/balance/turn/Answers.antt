@@ -7,58 +7,58 @@ read-top-requires g c = heavy_within _ _ _ _ _ c.requires.0 c.requires.1 c.requi
 
 pub height-requires : goal.height-requires
 height-requires g c =
-    let k = turning _ _ _ _ _ _ c.requires.0 c.requires.1 c.requires.2 c.requires.3 c.read-top.ensures _ _ c.child-outer.ensures c.child-inner.ensures in
+    let k = turning _ _ _ _ _ _ c.requires.0 c.requires.1 c.requires.2 c.requires.3 c.read-top.ensures _ _ c.child-outer.ensures c.child-inner.ensures _ c.item-top_item.ensures in
     (k.i, k.on_inner)
 
 pub height-requires-2 : goal.height-requires-2
 height-requires-2 g c =
-    let k = turning _ _ _ _ _ _ c.requires.0 c.requires.1 c.requires.2 c.requires.3 c.read-top.ensures _ _ c.child-outer.ensures c.child-inner.ensures in
+    let k = turning _ _ _ _ _ _ c.requires.0 c.requires.1 c.requires.2 c.requires.3 c.read-top.ensures _ _ c.child-outer.ensures c.child-inner.ensures _ c.item-top_item.ensures in
     (k.o, k.on_outer)
 
 pub join_on-low-requires : goal.join_on-low-requires
 join_on-low-requires g c =
-    let k = turning _ _ _ _ _ _ c.requires.0 c.requires.1 c.requires.2 c.requires.3 c.read-top.ensures _ _ c.child-outer.ensures c.child-inner.ensures in
+    let k = turning _ _ _ _ _ _ c.requires.0 c.requires.1 c.requires.2 c.requires.3 c.read-top.ensures _ _ c.child-outer.ensures c.child-inner.ensures _ c.item-top_item.ensures in
     (k.i, c.requires.1, k.low)
 
 pub join_on-requires : goal.join_on-requires
 join_on-requires g c =
-    let k = turning _ _ _ _ _ _ c.requires.0 c.requires.1 c.requires.2 c.requires.3 c.read-top.ensures _ _ c.child-outer.ensures c.child-inner.ensures in
+    let k = turning _ _ _ _ _ _ c.requires.0 c.requires.1 c.requires.2 c.requires.3 c.read-top.ensures _ _ c.child-outer.ensures c.child-inner.ensures _ c.item-top_item.ensures in
     (k.o, _, k.top _ _ (c.join_on-low.ensures k.i c.requires.1 k.low))
 
 pub returns-then-height : goal.returns-then-height
 returns-then-height g c = λ h l room big.
-    let k = turning _ _ _ _ _ _ h l room big c.read-top.ensures _ _ c.child-outer.ensures c.child-inner.ensures in
+    let k = turning _ _ _ _ _ _ h l room big c.read-top.ensures _ _ c.child-outer.ensures c.child-inner.ensures _ c.item-top_item.ensures in
     let j = c.join_on-low.ensures k.i l k.low in
     k.single _ _ _ _ (no_taller _ _ _ _ (c.height.ensures k.i k.on_inner) (c.height-2.ensures k.o k.on_outer) c.if-height.true) j (c.join_on.ensures k.o _ (k.top _ _ j))
 
 pub read-mid-requires : goal.read-mid-requires
 read-mid-requires g c =
-    let k = turning _ _ _ _ _ _ c.requires.0 c.requires.1 c.requires.2 c.requires.3 c.read-top.ensures _ _ c.child-outer.ensures c.child-inner.ensures in
+    let k = turning _ _ _ _ _ _ c.requires.0 c.requires.1 c.requires.2 c.requires.3 c.read-top.ensures _ _ c.child-outer.ensures c.child-inner.ensures _ c.item-top_item.ensures in
     k.inner_within (taller _ _ _ _ (c.height.ensures k.i k.on_inner) (c.height-2.ensures k.o k.on_outer) c.if-height.false)
 
 pub join_on-a-requires : goal.join_on-a-requires
 join_on-a-requires g c =
-    let k = turning _ _ _ _ _ _ c.requires.0 c.requires.1 c.requires.2 c.requires.3 c.read-top.ensures _ _ c.child-outer.ensures c.child-inner.ensures in
-    let d = k.double (taller _ _ _ _ (c.height.ensures k.i k.on_inner) (c.height-2.ensures k.o k.on_outer) c.if-height.false) _ c.read-mid.ensures _ _ c.child-near.ensures c.child-far.ensures in
+    let k = turning _ _ _ _ _ _ c.requires.0 c.requires.1 c.requires.2 c.requires.3 c.read-top.ensures _ _ c.child-outer.ensures c.child-inner.ensures _ c.item-top_item.ensures in
+    let d = k.double (taller _ _ _ _ (c.height.ensures k.i k.on_inner) (c.height-2.ensures k.o k.on_outer) c.if-height.false) _ c.read-mid.ensures _ _ c.child-near.ensures c.child-far.ensures _ c.item-mid_item.ensures in
     (k.o, d.b, d.first)
 
 pub join_on-b-requires : goal.join_on-b-requires
 join_on-b-requires g c =
-    let k = turning _ _ _ _ _ _ c.requires.0 c.requires.1 c.requires.2 c.requires.3 c.read-top.ensures _ _ c.child-outer.ensures c.child-inner.ensures in
-    let d = k.double (taller _ _ _ _ (c.height.ensures k.i k.on_inner) (c.height-2.ensures k.o k.on_outer) c.if-height.false) _ c.read-mid.ensures _ _ c.child-near.ensures c.child-far.ensures in
+    let k = turning _ _ _ _ _ _ c.requires.0 c.requires.1 c.requires.2 c.requires.3 c.read-top.ensures _ _ c.child-outer.ensures c.child-inner.ensures _ c.item-top_item.ensures in
+    let d = k.double (taller _ _ _ _ (c.height.ensures k.i k.on_inner) (c.height-2.ensures k.o k.on_outer) c.if-height.false) _ c.read-mid.ensures _ _ c.child-near.ensures c.child-far.ensures _ c.item-mid_item.ensures in
     (d.c, c.requires.1, d.second _ _ (c.join_on-a.ensures k.o d.b d.first))
 
 pub join_on-requires-else-height : goal.join_on-requires-else-height
 join_on-requires-else-height g c =
-    let k = turning _ _ _ _ _ _ c.requires.0 c.requires.1 c.requires.2 c.requires.3 c.read-top.ensures _ _ c.child-outer.ensures c.child-inner.ensures in
-    let d = k.double (taller _ _ _ _ (c.height.ensures k.i k.on_inner) (c.height-2.ensures k.o k.on_outer) c.if-height.false) _ c.read-mid.ensures _ _ c.child-near.ensures c.child-far.ensures in
+    let k = turning _ _ _ _ _ _ c.requires.0 c.requires.1 c.requires.2 c.requires.3 c.read-top.ensures _ _ c.child-outer.ensures c.child-inner.ensures _ c.item-top_item.ensures in
+    let d = k.double (taller _ _ _ _ (c.height.ensures k.i k.on_inner) (c.height-2.ensures k.o k.on_outer) c.if-height.false) _ c.read-mid.ensures _ _ c.child-near.ensures c.child-far.ensures _ c.item-mid_item.ensures in
     let j = c.join_on-a.ensures k.o d.b d.first in
     (_, _, d.third _ _ _ _ j (c.join_on-b.ensures d.c c.requires.1 (d.second _ _ j)))
 
 pub returns-else-height : goal.returns-else-height
 returns-else-height g c = λ h l room big.
-    let k = turning _ _ _ _ _ _ h l room big c.read-top.ensures _ _ c.child-outer.ensures c.child-inner.ensures in
-    let d = k.double (taller _ _ _ _ (c.height.ensures k.i k.on_inner) (c.height-2.ensures k.o k.on_outer) c.if-height.false) _ c.read-mid.ensures _ _ c.child-near.ensures c.child-far.ensures in
+    let k = turning _ _ _ _ _ _ h l room big c.read-top.ensures _ _ c.child-outer.ensures c.child-inner.ensures _ c.item-top_item.ensures in
+    let d = k.double (taller _ _ _ _ (c.height.ensures k.i k.on_inner) (c.height-2.ensures k.o k.on_outer) c.if-height.false) _ c.read-mid.ensures _ _ c.child-near.ensures c.child-far.ensures _ c.item-mid_item.ensures in
     let j = c.join_on-a.ensures k.o d.b d.first in
     let j2 = c.join_on-b.ensures d.c l (d.second _ _ j) in
     d.done _ _ _ _ _ _ j j2 (c.join_on-else-height.ensures _ _ (d.third _ _ _ _ j j2))

@@ -11,8 +11,8 @@ take_min-min-requires g c =
     let k = lift_ready _ _ c.requires.0 _ c.requires.1 c.read-n.ensures c.if-right.false in
     (k.1, k.2.stem_right)
 
-pub read-m-requires : goal.read-m-requires
-read-m-requires g c =
+pub read-requires : goal.read-requires
+read-requires g c =
     let k = lift_ready _ _ c.requires.0 _ c.requires.1 c.read-n.ensures c.if-right.false in
     let m = c.take_min-min.ensures k.1 k.2.stem_right in
     nth_within _ _ _ m.held
@@ -21,7 +21,7 @@ pub balance-requires : goal.balance-requires
 balance-requires g c =
     let k = lift_ready _ _ c.requires.0 _ c.requires.1 c.read-n.ensures c.if-right.false in
     let m = c.take_min-min.ensures k.1 k.2.stem_right in
-    (m.tree, k.0, k.2.room _ _ _ _ m c.read-m.ensures, k.2.uneven _ _ _ m)
+    (m.tree, k.0, rw c.item-item.ensures (k.2.room _ _ _ _ m c.read.ensures), k.2.uneven _ _ _ m)
 
 pub returns-then-right : goal.returns-then-right
 returns-then-right g c = λ t s. lift_leaf _ _ t _ s c.read-n.ensures c.if-right.true
@@ -30,4 +30,4 @@ pub returns-else-right : goal.returns-else-right
 returns-else-right g c = λ t s.
     let k = lift_ready _ _ t _ s c.read-n.ensures c.if-right.false in
     let m = c.take_min-min.ensures k.1 k.2.stem_right in
-    k.2.next _ _ _ _ _ _ m c.read-m.ensures (c.balance.ensures m.tree k.0 (k.2.room _ _ _ _ m c.read-m.ensures) (k.2.uneven _ _ _ m))
+    k.2.next _ _ _ _ _ _ m c.read.ensures (rw c.item-item.ensures at (c.balance.ensures m.tree k.0 (rw c.item-item.ensures (k.2.room _ _ _ _ m c.read.ensures)) (k.2.uneven _ _ _ m)))

@@ -14,7 +14,7 @@ pub returns-then-place : goal.returns-then-place
 returns-then-place g c = λ t w.
     let low = held_tall _ t w.stands.held w.once w.avl c.requires.short in
     let s = c.seek-place.ensures t w low in
-    (absent _ _ _ _ _ _ _ t w low s.0 c.if-place.true, refl)
+    (absent _ _ _ _ _ _ t w low s.0 c.if-place.true, refl)
 
 pub lift-sub-requires : goal.lift-sub-requires
 lift-sub-requires g c =
@@ -22,7 +22,7 @@ lift-sub-requires g c =
     let w = p.1 in
     let low = held_tall _ p.0 w.stands.held w.once w.avl c.requires.short in
     let s = c.seek-place.ensures p.0 w low in
-    (s.0.sub, sub_stem _ _ _ _ _ _ _ p.0 w low s.0 c.if-place.false)
+    (s.0.sub, sub_stem _ _ _ _ _ _ p.0 w low s.0 c.if-place.false)
 
 pub climb-rest-requires : goal.climb-rest-requires
 climb-rest-requires g c =
@@ -30,13 +30,13 @@ climb-rest-requires g c =
     let w = p.1 in
     let low = held_tall _ p.0 w.stands.held w.once w.avl c.requires.short in
     let s = c.seek-place.ensures p.0 w low in
-    let f = c.lift-sub.ensures s.0.sub (sub_stem _ _ _ _ _ _ _ p.0 w low s.0 c.if-place.false) in
-    (s.0.fs, f.tree, _, lifted_climb _ _ _ _ _ _ _ p.0 w low s.0 _ _ f)
+    let f = c.lift-sub.ensures s.0.sub (sub_stem _ _ _ _ _ _ p.0 w low s.0 c.if-place.false) in
+    (s.0.fs, f.tree, _, lifted_climb _ _ _ _ _ _ p.0 w low s.0 _ _ f)
 
 pub returns : goal.returns
 returns g c = λ t w.
     let low = held_tall _ t w.stands.held w.once w.avl c.requires.short in
     let s = c.seek-place.ensures t w low in
-    let f = c.lift-sub.ensures s.0.sub (sub_stem _ _ _ _ _ _ _ t w low s.0 c.if-place.false) in
-    let k = c.climb-rest.ensures s.0.fs f.tree _ (lifted_climb _ _ _ _ _ _ _ t w low s.0 _ _ f) in
-    lifted_done _ _ _ _ _ _ _ t w low s.0 _ _ f (s.1 c.if-place.false f.n f.held) _ _ k
+    let f = c.lift-sub.ensures s.0.sub (sub_stem _ _ _ _ _ _ t w low s.0 c.if-place.false) in
+    let k = c.climb-rest.ensures s.0.fs f.tree _ (lifted_climb _ _ _ _ _ _ t w low s.0 _ _ f) in
+    lifted_done _ _ _ _ _ _ t w low s.0 _ _ f (s.1 c.if-place.false f.n f.held) _ _ k

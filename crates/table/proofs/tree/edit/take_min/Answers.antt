@@ -6,18 +6,18 @@ use Rattle.table.proofs.tree.edit.take_min.Goals as goal
 pub read-requires : goal.read-requires
 read-requires g c =
     let p = c.requires in
-    let e = c.left_end-end.ensures p.0 p.1 p.1.low in
+    let e = c.left_end-end.ensures p.0 p.1 in
     link_within _ _ e.0.sub e.0.way.stands e.0.some
 
 pub climb-rest-requires : goal.climb-rest-requires
 climb-rest-requires g c =
     let p = c.requires in
-    let e = c.left_end-end.ensures p.0 p.1 p.1.low in
-    let k = min_ready _ _ _ _ _ p.0 _ p.1 c.read.ensures e.0 (e.1 _ c.read.ensures) in
+    let e = c.left_end-end.ensures p.0 p.1 in
+    let k = min_ready _ _ _ _ p.0 _ p.1 c.read.ensures e.0 (e.1 _ c.read.ensures) in
     (e.0.fs, k.rest, _, k.climb)
 
 pub returns : goal.returns
 returns g c = λ t s.
-    let e = c.left_end-end.ensures t s s.low in
-    let k = min_ready _ _ _ _ _ t _ s c.read.ensures e.0 (e.1 _ c.read.ensures) in
+    let e = c.left_end-end.ensures t s in
+    let k = min_ready _ _ _ _ t _ s c.read.ensures e.0 (e.1 _ c.read.ensures) in
     k.next _ _ (c.climb-rest.ensures e.0.fs k.rest _ k.climb)

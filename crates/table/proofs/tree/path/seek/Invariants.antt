@@ -5,7 +5,7 @@ use Rattle.table.specs.Search.{Whole, Descent, Under, Over}
 use Rattle.table.proofs.tree.path.seek.Given as goal
 
 abbrev pub invariant-loop-link : goal.invariant-loop-link
-invariant-loop-link g l = (t : Tree g.row.K.Denot g.row.V.Denot) → Whole g.K.Key.before l.nodes l.root t → tall t ≤ length l.initial.path → Descent g.K.Key.before (Under g.K.Key.before l.key) (Over g.K.Key.before l.key) l.nodes l.path l.deep l.link t
+invariant-loop-link g l = (t : Tree g.row.K.Denot g.row.V.Denot) → Whole g.K.Key.before l.nodes l.root t → tall t ≤ 14 → Descent g.K.Key.before (Under g.K.Key.before l.key) (Over g.K.Key.before l.key) l.nodes l.path.items l.link t
 
 abbrev pub decreases-loop-link : goal.decreases-loop-link
-decreases-loop-link g l = length l.initial.path - l.deep
+decreases-loop-link g l = 14 - length l.path.items
