@@ -3,14 +3,13 @@ use Rattle.std.proofs.Common.{◌≡◌, ℕ, false, List, Ok, Err, Result, refl
 use Rattle.slab_log.specs.Make.{MakesExtent}
 use Rattle.slab_log.specs.declared.extent.Extent.{Extent}
 use Rattle.slab_log.specs.declared.refusal.Refusal.{Refusal}
+use Rattle.slab_log.specs.declared.size.Size.{Size as Slab-size}
 use Rattle.slab_log.specs.declared.refusal.Refusal.TheVariants.{BadLine}
 use Rattle.store.specs.declared.log_store.LogStore.{Ghosts}
 use Rattle.disk_slab.specs.View.{View}
 use Rattle.disk_slab.specs.declared.state.Live.{Live}
 use Rattle.script.specs.Turns.{Again, Stays, turn_reply, after_turn}
 use Rattle.script.specs.declared.stage.Stage.{Stage}
-use Rattle.script.specs.declared.stage.Turn.{Turn}
-use Rattle.script.specs.declared.stage.Turn.TheVariants.{Serve, Refuse}
 use Rattle.script.specs.declared.stage.Stage.TheVariants.{Fresh, Refused, Serving, Moving}
 use Rattle.disk_slab.specs.Answers.{Allocates, after_allocate, Frees, after_free, Condenses, with_words, Shows}
 use Rattle.disk_slab.specs.declared.figures.Figures.{Figures as Slab-figures}
@@ -59,18 +58,18 @@ module _ (v : View) where
   freed w reply start len e r made answer left shows-it = rw (left, shows-it) (frees e made answer)
 
 -- a line that leads to another stage
-pub turned : (s : Seen) (command : Result Command Refusal) (next : Turn) → Again s command next → Answers s command (turn_reply next) (after_turn s next)
-turned (fresh capacity log) command (Serve size) asks = sized size asks
-turned (fresh capacity log) command (Refuse e) asks = not_sized asks
+pub turned : (s : Seen) (command : Result Command Refusal) (next : Result Slab-size Refusal) → Again s command next → Answers s command (turn_reply next) (after_turn s next)
+turned (fresh capacity log) command (Ok size) asks = sized size asks
+turned (fresh capacity log) command (Err e) asks = not_sized asks
 turned (refused capacity log) command next none = absurd none
-turned (serving v) command (Refuse e) none = absurd none
-turned (serving v) (Err e) (Serve size) (asks, same) = let z : ◌≡◌ {A = ℕ} 0 1 = cc in absurd (omega arith)
-turned (serving v) (Ok Reload) (Serve size) (asks, same) = rw same reloads
-turned (serving v) (Ok (Size _)) (Serve size) (asks, same) = let z : ◌≡◌ {A = ℕ} 0 1 = cc in absurd (omega arith)
-turned (serving v) (Ok (Allocate _)) (Serve size) (asks, same) = let z : ◌≡◌ {A = ℕ} 0 1 = cc in absurd (omega arith)
-turned (serving v) (Ok (Free _ _)) (Serve size) (asks, same) = let z : ◌≡◌ {A = ℕ} 0 1 = cc in absurd (omega arith)
-turned (serving v) (Ok Condense) (Serve size) (asks, same) = let z : ◌≡◌ {A = ℕ} 0 1 = cc in absurd (omega arith)
-turned (serving v) (Ok Figures) (Serve size) (asks, same) = let z : ◌≡◌ {A = ℕ} 0 1 = cc in absurd (omega arith)
+turned (serving v) command (Err e) none = absurd none
+turned (serving v) (Err e) (Ok size) (asks, same) = let z : ◌≡◌ {A = ℕ} 0 1 = cc in absurd (omega arith)
+turned (serving v) (Ok Reload) (Ok size) (asks, same) = rw same reloads
+turned (serving v) (Ok (Size _)) (Ok size) (asks, same) = let z : ◌≡◌ {A = ℕ} 0 1 = cc in absurd (omega arith)
+turned (serving v) (Ok (Allocate _)) (Ok size) (asks, same) = let z : ◌≡◌ {A = ℕ} 0 1 = cc in absurd (omega arith)
+turned (serving v) (Ok (Free _ _)) (Ok size) (asks, same) = let z : ◌≡◌ {A = ℕ} 0 1 = cc in absurd (omega arith)
+turned (serving v) (Ok Condense) (Ok size) (asks, same) = let z : ◌≡◌ {A = ℕ} 0 1 = cc in absurd (omega arith)
+turned (serving v) (Ok Figures) (Ok size) (asks, same) = let z : ◌≡◌ {A = ℕ} 0 1 = cc in absurd (omega arith)
 
 module _ {S : Type 0} (G : Ghosts S) where
   -- the stage that stood is known

@@ -4,14 +4,14 @@ ghost use Rattle.disk_slab.specs.View.{view, Sound};
 ghost use Rattle.script.specs.Lines.{command_of};
 ghost use Rattle.script.specs.Stages.{moving, is_reload, asks_reload, seen, capacity_of, words_of, SoundStage};
 ghost use Rattle.script.specs.Answers.{Answers, Sizes, at, done, words};
-ghost use Rattle.script.specs.Turns.{First, Turns, turn_reply, after_turn};
+ghost use Rattle.script.specs.Turns.{Turns, turn_reply, after_turn};
 ghost use Rattle.script.specs.Stages.{serving};
 
 use crate::command::Command;
 use crate::console::Console;
 use crate::line::read_line;
 use crate::reply::Reply;
-use crate::stage::{Stage, Turn};
+use crate::stage::Stage;
 use disk_slab::{Cold, Live};
 use slab_log::{Extent, Refusal, Size};
 use store::LogStore;
@@ -47,32 +47,22 @@ impl<S: LogStore> Console<S> {
         ensures words { S.LogStore.words result ≡ words_of (seen S.LogStore self.stage) }
     {
         let Console { mut stage } = self;
-        let _ = turn(&mut stage, Turn::Refuse(Refusal::BadLine));
+        let _ = turn(&mut stage, Err(Refusal::BadLine));
         store_of(stage)
     }
 }
 
-// How a line leads to another stage; nothing where it does not.
-fn next_turn<S: LogStore>(stage: &Stage<S>, command: Result<Command, Refusal>) -> Option<Turn>
+// How a line leads to another stage: to a slab of this size, or to a refusal of every later line. Nothing where it does not.
+fn next_turn<S: LogStore>(
+    stage: &Stage<S>,
+    command: Result<Command, Refusal>,
+) -> Option<Result<Size, Refusal>>
     ensures { Turns (seen S.LogStore stage.now) command result }
 {
-    match stage {
-        Stage::Fresh(_) => Some(first_turn(command)),
-        Stage::Serving(live) => match command {
-            Ok(Command::Reload) => Some(Turn::Serve(live.size())),
-            _ => None,
-        },
+    match (stage, command) {
+        (Stage::Fresh(_), first) => Some(first_size(first)),
+        (Stage::Serving(live), Ok(Command::Reload)) => Some(Ok(live.size())),
         _ => None,
-    }
-}
-
-// How the first line leads on.
-fn first_turn(command: Result<Command, Refusal>) -> Turn
-    ensures { First command result }
-{
-    match first_size(command) {
-        Ok(size) => Turn::Serve(size),
-        Err(refusal) => Turn::Refuse(refusal),
     }
 }
 
@@ -87,7 +77,7 @@ fn first_size(command: Result<Command, Refusal>) -> Result<Size, Refusal>
 }
 
 // Leads to the next stage. `finish` calls it too, so that the compiler keeps its large frame out of `answer`.
-fn turn<S: LogStore>(stage: &mut Stage<S>, next: Turn) -> Reply
+fn turn<S: LogStore>(stage: &mut Stage<S>, next: Result<Size, Refusal>) -> Reply
     requires { moving stage.old ≡ false }
     ensures standing { moving stage.new ≡ false }
     ensures reply { result ≡ turn_reply next }
@@ -96,11 +86,11 @@ fn turn<S: LogStore>(stage: &mut Stage<S>, next: Turn) -> Reply
 {
     let store = store_of(std::mem::replace(stage, Stage::Moving));
     match next {
-        Turn::Serve(size) => {
+        Ok(size) => {
             put(stage, Stage::Serving(Cold::open(store, size).load()));
             Reply::Done
         }
-        Turn::Refuse(refusal) => {
+        Err(refusal) => {
             put(stage, Stage::Refused(store));
             Reply::No(refusal)
         }
