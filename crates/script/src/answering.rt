@@ -1,9 +1,9 @@
 // Answering the lines of a script.
-ghost use Rattle.std.specs.Prelude.{◌≡◌, ℕ, true, false, Ok};
+ghost use Rattle.std.specs.Prelude.{◌≡◌, true, false};
 ghost use Rattle.disk_slab.specs.View.{view, Sound};
 ghost use Rattle.script.specs.Lines.{command_of};
-ghost use Rattle.script.specs.Stages.{moving, is_reload, asks_reload, seen, capacity_of, words_of, SoundStage};
-ghost use Rattle.script.specs.Answers.{Answers, Sizes, at, done, words};
+ghost use Rattle.script.specs.Stages.{moving, is_reload, seen, capacity_of, words_of, SoundStage};
+ghost use Rattle.script.specs.Answers.{Answers, Sizes, replied};
 ghost use Rattle.script.specs.Turns.{Turns, turn_reply, after_turn};
 ghost use Rattle.script.specs.Stages.{serving};
 
@@ -36,7 +36,7 @@ impl<S: LogStore> Console<S> {
             return turn(&mut self.stage, next);
         }
         match &mut self.stage {
-            Stage::Serving(live) => reply(live, command),
+            Stage::Serving(live) => serve(live, command).unwrap_or_else(Reply::No),
             _ => Reply::No(Refusal::BadLine),
         }
     }
@@ -125,69 +125,23 @@ fn put<S: LogStore>(stage: &mut Stage<S>, next: Stage<S>)
 }
 
 // The reply to a line on a slab, which stays where it is.
-fn reply<S: LogStore>(live: &mut Live<S>, command: Result<Command, Refusal>) -> Reply
+fn serve<S: LogStore>(
+    live: &mut Live<S>,
+    command: Result<Command, Refusal>,
+) -> Result<Reply, Refusal>
     requires { is_reload command ≡ false }
-    ensures answers { Answers (serving (view S.LogStore live.old)) command result (serving (view S.LogStore live.new)) }
+    ensures answers { Answers (serving (view S.LogStore live.old)) command (replied result) (serving (view S.LogStore live.new)) }
     ensures sound { Sound (view S.LogStore live.old) → Sound (view S.LogStore live.new) }
 {
-    match command {
-        Err(refusal) => Reply::No(refusal),
-        Ok(command) => serve(live, command),
-    }
-}
-
-fn serve<S: LogStore>(live: &mut Live<S>, command: Command) -> Reply
-    requires { asks_reload command ≡ false }
-    ensures answers { Answers (serving (view S.LogStore live.old)) (Ok command) result (serving (view S.LogStore live.new)) }
-    ensures sound { Sound (view S.LogStore live.old) → Sound (view S.LogStore live.new) }
-{
-    match command {
-        Command::Size(_) => Reply::No(Refusal::BadLine),
-        Command::Allocate(want) => at(live.allocate(want)),
-        Command::Free { start, length } => free(live, start, length),
-        Command::Condense => words(live.condense()),
+    Ok(match command? {
+        Command::Size(_) => return Err(Refusal::BadLine),
+        Command::Allocate(want) => Reply::At(live.allocate(want)?.start),
+        Command::Free { start, length } => {
+            live.free(Extent::new(start, length)?)?;
+            Reply::Done
+        }
+        Command::Condense => Reply::Words(live.condense()?),
         Command::Figures => Reply::Figures(live.figures()),
         Command::Reload => unreachable(),
-    }
-}
-
-// An extent by its two numbers, given back.
-fn free<S: LogStore>(live: &mut Live<S>, start: u64, length: u64) -> Reply
-    ensures answers { Answers (serving (view S.LogStore live.old)) (Ok (Command.Free start length)) result (serving (view S.LogStore live.new)) }
-    ensures sound { Sound (view S.LogStore live.old) → Sound (view S.LogStore live.new) }
-{
-    match Extent::new(start, length) {
-        Err(refusal) => Reply::No(refusal),
-        Ok(extent) => done(live.free(extent)),
-    }
-}
-
-// The reply to a grant.
-fn at(granted: Result<Extent, Refusal>) -> Reply
-    ensures { result ≡ at granted }
-{
-    match granted {
-        Ok(extent) => Reply::At(extent.start),
-        Err(refusal) => Reply::No(refusal),
-    }
-}
-
-// The reply to a return.
-fn done(freed: Result<(), Refusal>) -> Reply
-    ensures { result ≡ done freed }
-{
-    match freed {
-        Ok(()) => Reply::Done,
-        Err(refusal) => Reply::No(refusal),
-    }
-}
-
-// The reply to a condense.
-fn words(condensed: Result<usize, Refusal>) -> Reply
-    ensures { result ≡ words condensed }
-{
-    match condensed {
-        Ok(count) => Reply::Words(count),
-        Err(refusal) => Reply::No(refusal),
-    }
+    })
 }

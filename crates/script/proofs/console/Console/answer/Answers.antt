@@ -3,7 +3,7 @@ use Rattle.std.proofs.Common.{subst}
 use Rattle.script.specs.Stages.{seen, SoundStage}
 use Rattle.script.specs.declared.stage.Stage.{Stage}
 use Rattle.script.specs.declared.stage.Stage.TheVariants.{Serving}
-use Rattle.script.proofs.Answered.{read_as, turned, stood, turned_away}
+use Rattle.script.proofs.Answered.{read_as, turned, unwrapped, stood, turned_away}
 use Rattle.script.proofs.console.Console.answer.Goals as goal
 
 pub returns-in-Some : goal.returns-in-Some
@@ -18,8 +18,11 @@ pub returns-in-Serving : goal.returns-in-Serving
 returns-in-Serving g c =
     let G = g.S.LogStore in
     record {
-      answers = read_as c.read_line-command.ensures (stood G _ (Serving c.in-Serving.live) c.in-Serving.is c.reply.ensures.answers);
-      sound = λ s. c.reply.ensures.sound (subst (λ (t : Stage g.row.S.Denot). SoundStage (seen G t)) c.in-Serving.is s);
+      answers =
+          read_as c.read_line-command.ensures
+          (stood G _ (Serving c.in-Serving.live) c.in-Serving.is
+          (unwrapped c.serve.result _ c.unwrap_or_else.ensures c.serve.ensures.answers));
+      sound = λ s. c.serve.ensures.sound (subst (λ (t : Stage g.row.S.Denot). SoundStage (seen G t)) c.in-Serving.is s);
     }
 
 pub returns-in_default-stage : goal.returns-in_default-stage
