@@ -1,5 +1,5 @@
 -- A line feed ends the line, and any other byte is kept where there is room.
-use Rattle.std.proofs.Common.{refl}
+use Rattle.std.proofs.Common.{refl, rules}
 use Rattle.std.proofs.lemmas.Result.{err_from_is_err_and}
 use Rattle.script.specs.Feeds.{Taken}
 use Rattle.script.proofs.Fed.{kept_pushed, answers_line}
@@ -12,8 +12,7 @@ returns-in_err-add_reply g c = λ line is.
 
 pub returns-in_ok-add_reply : goal.returns-in_ok-add_reply
 returns-in_ok-add_reply g c = λ line is.
-    rw c.clear.ensures
-    (Taken.ends c.if-b-eq10.true (answers_line _ line is _ c.as_slice.ensures.value c.answer.ensures.answers) refl c.in_ok-add_reply.ensures)
+    Taken.ends c.if-b-eq10.true (answers_line _ line is _ c.as_slice.ensures.value c.answer.ensures.answers) (search rules) c.in_ok-add_reply.ensures
 
 pub returns-else-b-eq10 : goal.returns-else-b-eq10
 returns-else-b-eq10 g c = λ line is.
