@@ -1,5 +1,5 @@
 -- What a line is answered with, from what the slab's call answered and left.
-use Rattle.std.proofs.Common.{◌≡◌, ℕ, false, List, Ok, Err, Result, refl, arith}
+use Rattle.std.proofs.Common.{◌≡◌, ℕ, List, Some, Ok, Err, Option, Result, refl, arith}
 use Rattle.std.proofs.lemmas.Result.{err_from_is_err_and}
 use Rattle.std.specs.Result.{MatchResult, IsErrAnd}
 use Rattle.slab_log.specs.Make.{MakesExtent}
@@ -9,13 +9,12 @@ use Rattle.slab_log.specs.declared.size.Size.{Size as Slab-size}
 use Rattle.slab_log.specs.declared.refusal.Refusal.TheVariants.{BadLine}
 use Rattle.store.specs.declared.log_store.LogStore.{Ghosts}
 use Rattle.disk_slab.specs.View.{View}
-use Rattle.disk_slab.specs.declared.state.Live.{Live}
-use Rattle.script.specs.Turns.{Again, Stays, turn_reply, after_turn}
+use Rattle.script.specs.Turns.{Again, turn_reply, after_turn}
 use Rattle.script.specs.declared.stage.Stage.{Stage}
-use Rattle.script.specs.declared.stage.Stage.TheVariants.{Fresh, Refused, Serving, Moving}
+use Rattle.script.specs.declared.stage.Stage.TheVariants.{Refused}
 use Rattle.disk_slab.specs.Answers.{Allocates, after_allocate, Frees, after_free, Condenses, with_words, Shows}
 use Rattle.disk_slab.specs.declared.figures.Figures.{Figures as Slab-figures}
-use Rattle.script.specs.Stages.{Seen, fresh, refused, serving, seen, moving}
+use Rattle.script.specs.Stages.{Seen, fresh, refused, serving, seen}
 use Rattle.script.specs.Answers.{Answers, replied, at, done, words, sized, not_sized, after_refusal, against_form, second_size, allocates, no_extent, frees, condenses, shows, reloads}
 use Rattle.script.specs.declared.command.Command.{Command}
 use Rattle.script.specs.declared.command.Command.TheVariants.{Size, Allocate, Free, Condense, Figures, Reload}
@@ -81,14 +80,11 @@ turned (serving v) (Ok Figures) (Ok size) (asks, same) = let z : ◌≡◌ {A = 
 
 module _ {S : Type 0} (G : Ghosts S) where
   -- the stage that stood is known
-  pub stood : {command : Result Command Refusal} {reply : Reply} {after : Seen} (before was : Stage S) → before ≡ was →
+  pub stood : {command : Result Command Refusal} {reply : Reply} {after : Seen} (before was : Option (Stage S)) → before ≡ was →
       Answers (seen G was) command reply after → Answers (seen G before) command reply after
   stood before was is answer = rw is answer
 
-  -- a line that leads nowhere, and finds no slab
-  pub turned_away : (stage : Stage S) (command : Result Command Refusal) → moving stage ≡ false → Stays (seen G stage) command →
-      ((live : Live S) → stage ≡ Serving live → ⊥) → Answers (seen G stage) command (No BadLine) (seen G stage)
-  turned_away (Fresh store) command stands stays none = absurd stays
-  turned_away (Refused store) command stands stays none = after_refusal
-  turned_away (Serving live) command stands stays none = absurd (none live refl)
-  turned_away Moving command stands stays none = let z : ◌≡◌ {A = ℕ} 0 1 = cc in absurd (omega arith)
+  -- a line after one that was refused
+  pub still_refused : {line : Result Command Refusal} (stage : Option (Stage S)) (stands : Stage S) (store : S) → stage ≡ Some stands →
+      stands ≡ Refused store → Answers (seen G stage) line (No BadLine) (seen G (Some stands))
+  still_refused stage stands store is was = rw (is, was) after_refusal

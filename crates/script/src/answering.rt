@@ -1,8 +1,8 @@
 // Answering the lines of a script.
-ghost use Rattle.std.specs.Prelude.{◌≡◌, true, false};
+ghost use Rattle.std.specs.Prelude.{◌≡◌, false, Some, None, IsSome};
 ghost use Rattle.disk_slab.specs.View.{view, Sound};
 ghost use Rattle.script.specs.Lines.{command_of};
-ghost use Rattle.script.specs.Stages.{moving, is_reload, seen, capacity_of, words_of, SoundStage};
+ghost use Rattle.script.specs.Stages.{is_reload, seen, capacity_of, words_of, SoundStage};
 ghost use Rattle.script.specs.Answers.{Answers, Sizes, replied};
 ghost use Rattle.script.specs.Turns.{Turns, turn_reply, after_turn};
 ghost use Rattle.script.specs.Stages.{serving};
@@ -19,10 +19,10 @@ use store::LogStore;
 impl<S: LogStore> Console<S> {
     // A console over a store, before the first line.
     pub fn new(store: S) -> Console<S>
-        ensures { result.stage ≡ Stage.Fresh store }
+        ensures { result.stage ≡ Some (Stage.Fresh store) }
     {
         Console {
-            stage: Stage::Fresh(store),
+            stage: Some(Stage::Fresh(store)),
         }
     }
 
@@ -36,8 +36,10 @@ impl<S: LogStore> Console<S> {
             return turn(&mut self.stage, next);
         }
         match &mut self.stage {
-            Stage::Serving(live) => serve(live, command).unwrap_or_else(Reply::No),
-            _ => Reply::No(Refusal::BadLine),
+            Some(Stage::Serving(live)) => serve(live, command).unwrap_or_else(Reply::No),
+            Some(Stage::Refused(_)) => Reply::No(Refusal::BadLine),
+            Some(Stage::Fresh(_)) => unreachable(),
+            None => unreachable(),
         }
     }
 
@@ -54,14 +56,14 @@ impl<S: LogStore> Console<S> {
 
 // How a line leads to another stage: to a slab of this size, or to a refusal of every later line. Nothing where it does not.
 fn next_turn<S: LogStore>(
-    stage: &Stage<S>,
+    stage: &Option<Stage<S>>,
     command: Result<Command, Refusal>,
 ) -> Option<Result<Size, Refusal>>
     ensures { Turns (seen S.LogStore stage.now) command result }
 {
     match (stage, command) {
-        (Stage::Fresh(_), first) => Some(first_size(first)),
-        (Stage::Serving(live), Ok(Command::Reload)) => Some(Ok(live.size())),
+        (Some(Stage::Fresh(_)), first) => Some(first_size(first)),
+        (Some(Stage::Serving(live)), Ok(Command::Reload)) => Some(Ok(live.size())),
         _ => None,
     }
 }
@@ -77,14 +79,14 @@ fn first_size(command: Result<Command, Refusal>) -> Result<Size, Refusal>
 }
 
 // Leads to the next stage. `finish` calls it too, so that the compiler keeps its large frame out of `answer`.
-fn turn<S: LogStore>(stage: &mut Stage<S>, next: Result<Size, Refusal>) -> Reply
-    requires { moving stage.old ≡ false }
-    ensures standing { moving stage.new ≡ false }
+fn turn<S: LogStore>(stage: &mut Option<Stage<S>>, next: Result<Size, Refusal>) -> Reply
+    requires { IsSome stage.old }
+    ensures standing { IsSome stage.new }
     ensures reply { result ≡ turn_reply next }
     ensures leaves { seen S.LogStore stage.new ≡ after_turn (seen S.LogStore stage.old) next }
     ensures sound { SoundStage (seen S.LogStore stage.new) }
 {
-    let store = store_of(std::mem::replace(stage, Stage::Moving));
+    let store = store_of(stage.take());
     match next {
         Ok(size) => {
             put(stage, Stage::Serving(Cold::open(store, size).load()));
@@ -98,29 +100,27 @@ fn turn<S: LogStore>(stage: &mut Stage<S>, next: Result<Size, Refusal>) -> Reply
 }
 
 // The store of a stage, whose slab is closed.
-fn store_of<S: LogStore>(stage: Stage<S>) -> S
-    requires { moving stage ≡ false }
+fn store_of<S: LogStore>(stage: Option<Stage<S>>) -> S
+    requires { IsSome stage }
     ensures capacity { S.LogStore.capacity result ≡ capacity_of (seen S.LogStore stage) }
     ensures words { S.LogStore.words result ≡ words_of (seen S.LogStore stage) }
 {
     match stage {
-        Stage::Fresh(store) => store,
-        Stage::Refused(store) => store,
-        Stage::Serving(live) => live.close(),
-        Stage::Moving => unreachable(),
+        Some(Stage::Fresh(store)) => store,
+        Some(Stage::Refused(store)) => store,
+        Some(Stage::Serving(live)) => live.close(),
+        None => unreachable(),
     }
 }
 
 // Puts a stage in where none stands.
-fn put<S: LogStore>(stage: &mut Stage<S>, next: Stage<S>)
-    requires { moving stage.old ≡ true }
-    ensures { stage.new ≡ next }
+fn put<S: LogStore>(stage: &mut Option<Stage<S>>, next: Stage<S>)
+    requires { stage.old ≡ None }
+    ensures { stage.new ≡ Some next }
 {
-    match std::mem::replace(stage, next) {
-        Stage::Moving => {}
-        Stage::Fresh(_store) => unreachable(),
-        Stage::Refused(_store) => unreachable(),
-        Stage::Serving(_live) => unreachable(),
+    match stage.replace(next) {
+        None => {}
+        Some(_stage) => unreachable(),
     }
 }
 

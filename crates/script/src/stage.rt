@@ -2,7 +2,7 @@
 use disk_slab::Live;
 use store::LogStore;
 
-// Linear, as the slab is. `Moving` stands in while one stage is taken out and the next is put in.
+// Linear, as the slab is.
 pub enum Stage<S: LogStore> {
     // No line has been answered.
     Fresh(S),
@@ -10,5 +10,4 @@ pub enum Stage<S: LogStore> {
     Refused(S),
     // The first line made this slab.
     Serving(Live<S>),
-    Moving,
 }
