@@ -1,79 +1,117 @@
--- A loop over the digits of a number: what it keeps, each step, and what its end gives.
-use Rattle.std.proofs.Common.{◌≡◌, ℕ, ◌+◌, ◌-◌, ◌*◌, ◌^◌, ◌<◌, ◌≤◌, true, false, leb, ◌≢◌, List, [], ◌∷◌, length, get_or, drop, Ok, Err, sym, refl, ap, ◌∙◌, arith, pow-add}
+-- The digits at the front of a list, and a loop over them: what it keeps, each step, and what its end gives.
+use Rattle.std.proofs.Common.{◌≡◌, ℕ, ◌+◌, ◌-◌, ◌*◌, ◌^◌, ◌<◌, ◌≤◌, true, false, leb, ◌≢◌, Bool, cond, ◌⊎◌, inl, inr, suc, zero, List, [], ◌∷◌, ◌++◌, length, get_or, take, drop, Ok, Err, sym, refl, ap, ◌∙◌, arith, pow-add}
 use Rattle.std.proofs.lemmas.List.{drop_more, drop_all}
+use Rattle.std.proofs.Math.Seq.{take-append_seam}
+use Rattle.std.proofs.lemmas.List.Folds.{length-prefix_len}
+use Rattle.std.specs.List.{prefix_len, take_while}
 use Rattle.std.proofs.lemmas.Bool.{leb-true, le-leb, lt-leb, and_parts, and_from, and_right}
 use Rattle.slab_log.specs.declared.refusal.Refusal.TheVariants.{BadLine}
 use Rattle.script.specs.Numbers.{is_digit, front_digits, value_after, value, counted, number_at}
 
--- the digits from one place on stand behind those from an earlier place, which write v
-pub record Read (line : List ℕ) (from at v : ℕ) : Type 0 where
-  pub past : from ≤ at
-  pub few : at ≤ from + 10
-  pub small : v < 10 ^ (at - from)
-  pub value_same : value_after v (front_digits (drop at line)) ≡ value (front_digits (drop from line))
-  pub count_same : (at - from) + length (front_digits (drop at line)) ≡ length (front_digits (drop from line))
+-- one byte before equal lists
+pub behind : (b : ℕ) {xs ys : List ℕ} → xs ≡ ys → b ∷ xs ≡ b ∷ ys
+behind b e = ap (λ (bs : List ℕ). b ∷ bs) e
 
-pub begun : (line : List ℕ) (from : ℕ) → Read line from from 0
-begun line from =
-    let none : from - from ≡ 0 = omega arith in
-    record { past = omega arith; few = omega arith; small = rw none (omega arith); value_same = refl; count_same = omega arith }
+-- the digits at the front of a list, again, and with what follows them
+pub front_again : (bs : List ℕ) → front_digits (front_digits bs) ≡ front_digits bs
+front_again [] = refl
+front_again (b ∷ bs) = go (is_digit b) refl (front_again bs)
+  where
+    go : (t : Bool) → is_digit b ≡ t → front_digits (front_digits bs) ≡ front_digits bs
+        → front_digits (cond t (b ∷ front_digits bs) []) ≡ cond t (b ∷ front_digits bs) []
+    go true e h = rw e (behind b h)
+    go false e h = refl
 
-pub digits_more : (line : List ℕ) (at : ℕ) → at < length line → is_digit (get_or line at 0) ≡ true
-    → front_digits (drop at line) ≡ get_or line at 0 ∷ front_digits (drop (at + 1) line)
-digits_more line at h d = rw (drop_more line at 0 h, d)
+pub front_split : (bs : List ℕ) → bs ≡ front_digits bs ++ drop (length (front_digits bs)) bs
+front_split [] = refl
+front_split (b ∷ bs) = go (is_digit b) (front_split bs)
+  where
+    go : (t : Bool) → bs ≡ front_digits bs ++ drop (length (front_digits bs)) bs
+        → b ∷ bs ≡ cond t (b ∷ front_digits bs) [] ++ drop (length (cond t (b ∷ front_digits bs) [])) (b ∷ bs)
+    go true h = behind b h
+    go false h = refl
 
-pub digits_end : (line : List ℕ) (at : ℕ) → length line ≤ at → front_digits (drop at line) ≡ []
-digits_end line at h = rw (drop_all at line h)
+digits_first : (xs : List ℕ) → prefix_len is_digit xs ≡ length (front_digits xs)
+digits_first [] = refl
+digits_first (b ∷ bs) = go (is_digit b) (digits_first bs)
+  where
+    go : (t : Bool) → prefix_len is_digit bs ≡ length (front_digits bs)
+        → cond t (1 + prefix_len is_digit bs) 0 ≡ length (cond t (b ∷ front_digits bs) [])
+    go true h = omega arith
+    go false h = refl
 
-pub digits_stop : (line : List ℕ) (at : ℕ) → at < length line → is_digit (get_or line at 0) ≡ false
-    → front_digits (drop at line) ≡ []
-digits_stop line at h d = rw (drop_more line at 0 h, d)
+-- how many digits there are is how many bytes from the front on are digits
+pub digits_counted : (xs : List ℕ) → length (take_while is_digit xs) ≡ length (front_digits xs)
+digits_counted xs = length-prefix_len is_digit xs ∙ digits_first xs
+
+module _ (line : List ℕ) (from n : ℕ) (counts : n ≡ length (take_while is_digit (drop from line))) where
+  same : n ≡ length (front_digits (drop from line))
+  same = counts ∙ digits_counted (drop from line)
+
+  -- the digits are the part of the line that the code cuts out
+  pub digits_cut : take (from + n - from) (drop from line) ≡ front_digits (drop from line)
+  digits_cut =
+      let bs : List ℕ = drop from line in
+      let back : from + n - from ≡ length (front_digits bs) = omega (arith, same) in
+      ap (λ (k : ℕ). take k bs) back
+      ∙ (ap (take (length (front_digits bs))) (front_split bs)
+      ∙ take-append_seam (front_digits bs) (drop (length (front_digits bs)) bs))
+
+  -- none, or more than 10, are refused
+  pub number_refused : (n ≡ 0) ⊎ (n ≢ 0 × (10 < n)) → number_at line from ≡ Err BadLine
+  number_refused (inl none) = rw (← same, none) refl
+  number_refused (inr (some, many)) = rw (← same, and_right (leb 1 n) (leb n 10) (lt-leb n 10 many)) refl
+
+  -- 1 to 10 of them are a number
+  pub number_counted : (v : ℕ) → n ≢ 0 → n ≤ 10 → v ≡ value (front_digits (drop from line))
+      → number_at line from ≡ Ok (record { value = v; end = from + n })
+  number_counted v some few is =
+      let some_few : counted n ≡ true = and_from _ _ (le-leb 1 n (omega arith)) (le-leb n 10 few) in
+      rw (← same, some_few, is) refl
+
+-- each of a list of digits is one
+pub digit_at : (ds : List ℕ) (i : ℕ) → front_digits ds ≡ ds → i < length ds → is_digit (get_or ds i 0) ≡ true
+digit_at [] i h inside = absurd (omega arith)
+digit_at (d ∷ ds) i h inside = go (is_digit d) refl h (digit_at ds) i inside
+  where
+    go : (t : Bool) → is_digit d ≡ t → cond t (d ∷ front_digits ds) [] ≡ d ∷ ds
+        → ((k : ℕ) → front_digits ds ≡ ds → k < length ds → is_digit (get_or ds k 0) ≡ true)
+        → (i : ℕ) → i < length (d ∷ ds) → is_digit (get_or (d ∷ ds) i 0) ≡ true
+    go true e h later zero below = e
+    go true e h later (suc i) below = let same : front_digits ds ≡ ds = cc in later i same (omega arith)
+    go false e h later i below = let z : ◌≡◌ {A = ℕ} 0 1 = cc in absurd (omega arith)
+
+pub digit_low : (ds : List ℕ) (i : ℕ) → front_digits ds ≡ ds → i < length ds → 48 ≤ get_or ds i 0
+digit_low ds i h inside = leb-true 48 (get_or ds i 0) (and_parts (leb 48 (get_or ds i 0)) (leb (get_or ds i 0) 57) (digit_at ds i h inside)).0
+
+-- v is what the digits before a place write
+pub record Read (ds : List ℕ) (i v : ℕ) : Type 0 where
+  pub few : i ≤ 10
+  pub small : v < 10 ^ i
+  pub value_same : value_after v (front_digits (drop i ds)) ≡ value (front_digits ds)
+
+pub begun : (ds : List ℕ) → Read ds 0 0
+begun ds = record { few = omega arith; small = omega arith; value_same = refl }
 
 power_more : (k v d : ℕ) → v < 10 ^ k → d < 10 → v * 10 + d < 10 ^ (k + 1)
 power_more k v d h e = rw (pow-add 10 k 1) (omega arith)
 
 -- one digit on
-pub read_more : (line : List ℕ) (from at v : ℕ) → Read line from at v → at < length line → is_digit (get_or line at 0) ≡ true
-    → at - from ≢ 10 → Read line from (at + 1) (v * 10 + (get_or line at 0 - 48))
-read_more line from at v r h d ne =
-    let past : from ≤ at = r.past in
-    let few : at ≤ from + 10 = r.few in
-    let next : at + 1 - from ≡ (at - from) + 1 = omega arith in
-    let more = digits_more line at h d in
-    let b : ℕ = get_or line at 0 in
+pub read_more : (ds : List ℕ) (i v : ℕ) → Read ds i v → i < length ds → length ds ≤ 10 → is_digit (get_or ds i 0) ≡ true
+    → Read ds (i + 1) (v * 10 + (get_or ds i 0 - 48))
+read_more ds i v r h few d =
+    let more : front_digits (drop i ds) ≡ get_or ds i 0 ∷ front_digits (drop (i + 1) ds) = rw (drop_more ds i 0 h, d) refl in
+    let b : ℕ = get_or ds i 0 in
     let high : b ≤ 57 = leb-true b 57 (and_parts (leb 48 b) (leb b 57) d).1 in
     let small : b - 48 < 10 = omega arith in
     record {
-      past = omega arith;
       few = omega arith;
-      small = rw next (power_more (at - from) v (get_or line at 0 - 48) r.small small);
+      small = power_more i v (get_or ds i 0 - 48) r.small small;
       value_same = ap (value_after v) (sym more) ∙ r.value_same;
-      count_same = omega (arith, ap length more, r.count_same);
     }
 
--- no digit, or more than 10
-pub none_refused : (line : List ℕ) (from at : ℕ) → front_digits (drop at line) ≡ [] → at ≡ from
-    → number_at line from ≡ Err BadLine
-none_refused line from at e h = rw (← h, e)
-
-pub many_refused : (line : List ℕ) (from at v : ℕ) → Read line from at v → at < length line → is_digit (get_or line at 0) ≡ true
-    → at - from ≡ 10 → number_at line from ≡ Err BadLine
-many_refused line from at v r h d e =
-    let more = digits_more line at h d in
-    let n : ℕ = length (front_digits (drop from line)) in
-    let long : 10 < n = omega (arith, ap length more, r.count_same) in
-    rw (and_right (leb 1 n) (leb n 10) (lt-leb n 10 long))
-
--- where the digits end, the number is read
-pub read_whole : (line : List ℕ) (from at v : ℕ) → Read line from at v → front_digits (drop at line) ≡ [] → (at ≡ from → ⊥)
-    → number_at line from ≡ Ok (record { value = v; end = at })
-read_whole line from at v r e ne =
-    let past : from ≤ at = r.past in
-    let few : at ≤ from + 10 = r.few in
-    let count : at - from ≡ length (front_digits (drop from line)) = omega (arith, ap length e, r.count_same) in
-    let end : from + length (front_digits (drop from line)) ≡ at = omega arith in
-    let all : value (front_digits (drop from line)) ≡ v = sym r.value_same ∙ ap (value_after v) e in
-    let low : 1 ≤ length (front_digits (drop from line)) = omega arith in
-    let high : length (front_digits (drop from line)) ≤ 10 = omega arith in
-    let some : counted (length (front_digits (drop from line))) ≡ true = and_from _ _ (le-leb 1 _ low) (le-leb _ 10 high) in
-    rw (some, all, end)
+-- where the digits end, they are read
+pub read_whole : (ds : List ℕ) (i v : ℕ) → Read ds i v → length ds ≤ i → v ≡ value (front_digits ds)
+read_whole ds i v r end =
+    let none : front_digits (drop i ds) ≡ [] = rw (drop_all i ds end) refl in
+    sym (ap (value_after v) none) ∙ r.value_same

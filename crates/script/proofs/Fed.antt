@@ -1,7 +1,9 @@
 -- What is kept of a line reads like the whole line, and grows with it; bytes are fed one by one.
-use Rattle.std.proofs.Common.{◌≡◌, ℕ, ◌+◌, ◌<◌, ◌≤◌, min, ◌⊎◌, List, [], ◌∷◌, ◌++◌, length, get_or, take, set, Ok, Err, Result, sym, refl, ap, ◌∙◌, subst, inl, inr, append_assoc, append-nil, arith, length-append, length-take}
-use Rattle.std.proofs.lemmas.List.{take_all, take-append-le, take_more, take_more_set}
+use Rattle.std.proofs.Common.{◌≡◌, ℕ, ◌+◌, ◌<◌, ◌≤◌, min, ◌⊎◌, List, [], ◌∷◌, ◌++◌, length, get_or, take, Ok, Err, Result, sym, refl, ap, ◌∙◌, subst, inl, inr, append_assoc, append-nil, arith, length-append, length-take}
+use Rattle.std.proofs.lemmas.List.{take_all, take-append-le, take_more}
 use Rattle.std.proofs.lemmas.Bool.{lt-leb, cases_lt}
+use Rattle.std.specs.Result.{IsOk, OnOk, OnErr}
+use Rattle.arrayvec.specs.ArrayVec.{ArrayVec}
 use Rattle.script.specs.Lines.{command_of}
 use Rattle.script.specs.Replies.{line_of, AddsReply}
 use Rattle.script.specs.Stages.{Seen}
@@ -20,36 +22,43 @@ command_kept line = go (cases_lt 64 (length line))
         rw (whole, part)
     go (inr short) = ap command_of (take_all 65 line (omega arith))
 
-module _ (bytes : List ℕ) (size : length bytes ≡ 65) (line : List ℕ) (len : ℕ) (is : kept line ≡ take len bytes) where
+module _ (held : List ℕ) (line : List ℕ) (is : kept line ≡ held) where
   -- as many bytes are kept as there are, but for those that find no room
-  lengths : min 65 (length line) ≡ min len 65
-  lengths = sym (length-take 65 line) ∙ ap length is ∙ length-take len bytes ∙ ap (min len) size
+  lengths : min 65 (length line) ≡ length held
+  lengths = sym (length-take 65 line) ∙ ap length is
 
-  pub kept_more : (b : ℕ) → len < 65 → kept (line ++ b ∷ []) ≡ take (len + 1) (set bytes len b)
+  kept_more : (b : ℕ) → length held < 65 → kept (line ++ b ∷ []) ≡ held ++ b ∷ []
   kept_more b room =
-      let whole : length line ≡ len = omega (arith, lengths) in
+      let whole : length line ≤ 64 = omega (arith, lengths) in
       take_all 65 (line ++ b ∷ []) (omega (arith, length-append line (b ∷ [])))
       ∙ ap (λ l. l ++ b ∷ []) (sym (take_all 65 line (omega arith)) ∙ is)
-      ∙ sym (take_more_set bytes len b (omega arith))
 
-  pub kept_full : (b : ℕ) → 65 ≤ len → kept (line ++ b ∷ []) ≡ take len bytes
+  kept_full : (b : ℕ) → length held ≡ 65 → kept (line ++ b ∷ []) ≡ held
   kept_full b full = take-append-le 65 line (b ∷ []) (omega (arith, lengths)) ∙ is
 
-  pub kept_none : len ≡ 0 → line ≡ []
+  -- a byte is kept where there is room
+  pub kept_pushed : {U E : Type 0} (b : ℕ) (before after : ArrayVec ℕ) (r : Result U E) → before.items ≡ held → (IsOk r → length before.items < 65) →
+      OnOk r (after.items ≡ before.items ++ b ∷ []) → OnErr r (after ≡ before) → OnErr r (length before.items ≡ 65) → kept (line ++ b ∷ []) ≡ after.items
+  kept_pushed b before after (Ok u) same room pushed stays full =
+      kept_more b (omega (arith, ap length same, room refl)) ∙ (ap (λ l. l ++ b ∷ []) (sym same) ∙ sym pushed)
+  kept_pushed b before after (Err e) same room pushed stays full =
+      kept_full b (omega (arith, ap length same, full)) ∙ (sym same ∙ ap (λ v. v.items) (sym stays))
+
+  pub kept_none : length held ≡ 0 → line ≡ []
   kept_none none = go line (omega (arith, lengths))
     where
       go : (l : List ℕ) → length l ≡ 0 → l ≡ []
       go [] e = refl
       go (x ∷ xs) e = absurd (omega arith)
 
-  pub kept_some : ¬ (len ≡ 0) → ¬ (line ≡ [])
+  pub kept_some : ¬ (length held ≡ 0) → ¬ (line ≡ [])
   kept_some some empty = some (omega (arith, lengths, ap length empty))
 
   -- what was answered was the whole line
-  pub answers_line : {s t : Seen} {reply : Reply} (n : ℕ) → n ≡ len → Answers s (command_of (take n bytes)) reply t →
+  pub answers_line : {s t : Seen} {reply : Reply} (given : List ℕ) → given ≡ held → Answers s (command_of given) reply t →
       Answers s (command_of line) reply t
-  answers_line n same a =
-      let whole : command_of (take n bytes) ≡ command_of line = ap (λ m. command_of (take m bytes)) same ∙ (ap command_of (sym is) ∙ command_kept line) in
+  answers_line given same a =
+      let whole : command_of given ≡ command_of line = ap command_of same ∙ (ap command_of (sym is) ∙ command_kept line) in
       rw whole at a
 
 -- the last line is answered, and its reply finds memory or not

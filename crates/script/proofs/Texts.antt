@@ -8,6 +8,7 @@ use Rattle.script.specs.declared.command.Command.{Command}
 use Rattle.script.specs.declared.command.Command.TheVariants.{Size, Allocate, Free, Condense, Figures, Reload}
 use Rattle.script.specs.declared.number.Number.{Number}
 use Rattle.script.specs.Numbers.{is_digit, front_digits, value, counted, number_of, number_at}
+use Rattle.script.proofs.Digits.{behind, front_again, front_split}
 use Rattle.script.specs.Lines.{spaced_at, ended, one_number, extent_numbers, by_letter, command_of}
 use Rattle.script.specs.Lines.{Digits, Writes, LinesAreTexts}
 use Rattle.script.specs.Lines.Writes.{size, allocate, free, condense, figures, reload}
@@ -26,29 +27,6 @@ then_ok : {A B E : Type 0} (r : Result A E) (f : A → Result B E) (y : B)
     → ◌≡◌ {A = Result B E} (elim r [ Ok n ↦ f n | Err e ↦ Err e ]) (Ok y) → (n : A) × (r ≡ Ok n) × (f n ≡ Ok y)
 then_ok (Ok n) f y h = (n, refl, h)
 then_ok (Err e) f y h = let z : ◌≡◌ {A = ℕ} 0 1 = cc in absurd (omega arith)
-
--- one byte before equal lists
-behind : (b : ℕ) {xs ys : List ℕ} → xs ≡ ys → b ∷ xs ≡ b ∷ ys
-behind b e = ap (λ (bs : List ℕ). b ∷ bs) e
-
--- the digits at the front of a list, again, and with what follows them
-front_again : (bs : List ℕ) → front_digits (front_digits bs) ≡ front_digits bs
-front_again [] = refl
-front_again (b ∷ bs) = go (is_digit b) refl (front_again bs)
-  where
-    go : (t : Bool) → is_digit b ≡ t → front_digits (front_digits bs) ≡ front_digits bs
-        → front_digits (cond t (b ∷ front_digits bs) []) ≡ cond t (b ∷ front_digits bs) []
-    go true e h = rw e (behind b h)
-    go false e h = refl
-
-front_split : (bs : List ℕ) → bs ≡ front_digits bs ++ drop (length (front_digits bs)) bs
-front_split [] = refl
-front_split (b ∷ bs) = go (is_digit b) (front_split bs)
-  where
-    go : (t : Bool) → bs ≡ front_digits bs ++ drop (length (front_digits bs)) bs
-        → b ∷ bs ≡ cond t (b ∷ front_digits bs) [] ++ drop (length (cond t (b ∷ front_digits bs) [])) (b ∷ bs)
-    go true h = behind b h
-    go false h = refl
 
 -- digits before a byte that is none
 front_stops : (ds es : List ℕ) (b : ℕ) → is_digit b ≡ false → front_digits ds ≡ ds → front_digits (ds ++ (b ∷ es)) ≡ ds

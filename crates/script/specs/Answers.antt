@@ -27,6 +27,11 @@ abbrev pub Sizes : Result Command Refusal → Result Slab-size Refusal → Type 
 Sizes (Ok command) r = command_sizes command r
 Sizes (Err _) r = r ≡ Err BadLine
 
+-- a refusal is a reply as well
+abbrev pub replied : Result Reply Refusal → Reply
+replied (Ok reply) = reply
+replied (Err e) = No e
+
 -- the replies to what the slab's calls answer
 abbrev pub at : Result Extent Refusal → Reply
 at (Ok e) = At e.start

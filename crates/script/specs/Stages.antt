@@ -1,12 +1,12 @@
 -- How far the run of a script has come, and what can be seen of it.
-use Rattle.std.specs.Prelude.{ℕ, Bool, true, false, List, [], Ok, Err, Result}
+use Rattle.std.specs.Prelude.{ℕ, Bool, true, false, List, [], Some, None, Ok, Err, Option, Result}
 use Rattle.slab_log.specs.declared.refusal.Refusal.{Refusal}
 use Rattle.store.specs.declared.log_store.LogStore.{Ghosts}
 use Rattle.disk_slab.specs.View.{View, view, Sound}
 use Rattle.script.specs.declared.command.Command.{Command}
 use Rattle.script.specs.declared.command.Command.TheVariants.{Size, Allocate, Free, Condense, Figures, Reload}
 use Rattle.script.specs.declared.stage.Stage.{Stage}
-use Rattle.script.specs.declared.stage.Stage.TheVariants.{Fresh, Refused, Serving, Moving}
+use Rattle.script.specs.declared.stage.Stage.TheVariants.{Fresh, Refused, Serving}
 
 -- what can be seen: before the first line, or after one that was refused, the store's capacity and list; else the slab
 pub data Seen : Type 0 where
@@ -30,13 +30,6 @@ SoundStage (fresh capacity words) = Unit {0}
 SoundStage (refused capacity words) = Unit {0}
 SoundStage (serving v) = Sound v
 
--- the placeholder
-abbrev pub moving : {S : Type 0} → Stage S → Bool
-moving (Fresh store) = false
-moving (Refused store) = false
-moving (Serving live) = false
-moving Moving = true
-
 abbrev pub asks_reload : Command → Bool
 asks_reload (Size _) = false
 asks_reload (Allocate _) = false
@@ -50,8 +43,9 @@ is_reload (Ok command) = asks_reload command
 is_reload (Err _) = false
 
 module _ {S : Type 0} (G : Ghosts S) where
-  abbrev pub seen : Stage S → Seen
-  seen (Fresh store) = fresh (G.capacity store) (G.words store)
-  seen (Refused store) = refused (G.capacity store) (G.words store)
-  seen (Serving live) = serving (view G live)
-  seen Moving = refused 0 []
+  -- of a console's stage; none stands only while a call changes it
+  abbrev pub seen : Option (Stage S) → Seen
+  seen (Some (Fresh store)) = fresh (G.capacity store) (G.words store)
+  seen (Some (Refused store)) = refused (G.capacity store) (G.words store)
+  seen (Some (Serving live)) = serving (view G live)
+  seen None = refused 0 []

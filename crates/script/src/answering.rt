@@ -1,17 +1,17 @@
 // Answering the lines of a script.
-ghost use Rattle.std.specs.Prelude.{◌≡◌, ℕ, true, false, Ok};
+ghost use Rattle.std.specs.Prelude.{◌≡◌, false, Some, None, IsSome};
 ghost use Rattle.disk_slab.specs.View.{view, Sound};
 ghost use Rattle.script.specs.Lines.{command_of};
-ghost use Rattle.script.specs.Stages.{moving, is_reload, asks_reload, seen, capacity_of, words_of, SoundStage};
-ghost use Rattle.script.specs.Answers.{Answers, Sizes, at, done, words};
-ghost use Rattle.script.specs.Turns.{First, Turns, turn_reply, after_turn};
+ghost use Rattle.script.specs.Stages.{is_reload, seen, capacity_of, words_of, SoundStage};
+ghost use Rattle.script.specs.Answers.{Answers, Sizes, replied};
+ghost use Rattle.script.specs.Turns.{Turns, turn_reply, after_turn};
 ghost use Rattle.script.specs.Stages.{serving};
 
 use crate::command::Command;
 use crate::console::Console;
 use crate::line::read_line;
 use crate::reply::Reply;
-use crate::stage::{Stage, Turn};
+use crate::stage::Stage;
 use disk_slab::{Cold, Live};
 use slab_log::{Extent, Refusal, Size};
 use store::LogStore;
@@ -19,10 +19,10 @@ use store::LogStore;
 impl<S: LogStore> Console<S> {
     // A console over a store, before the first line.
     pub fn new(store: S) -> Console<S>
-        ensures { result.stage ≡ Stage.Fresh store }
+        ensures { result.stage ≡ Some (Stage.Fresh store) }
     {
         Console {
-            stage: Stage::Fresh(store),
+            stage: Some(Stage::Fresh(store)),
         }
     }
 
@@ -36,8 +36,10 @@ impl<S: LogStore> Console<S> {
             return turn(&mut self.stage, next);
         }
         match &mut self.stage {
-            Stage::Serving(live) => reply(live, command),
-            _ => Reply::No(Refusal::BadLine),
+            Some(Stage::Serving(live)) => serve(live, command).unwrap_or_else(Reply::No),
+            Some(Stage::Refused(_)) => Reply::No(Refusal::BadLine),
+            Some(Stage::Fresh(_)) => unreachable(),
+            None => unreachable(),
         }
     }
 
@@ -47,32 +49,22 @@ impl<S: LogStore> Console<S> {
         ensures words { S.LogStore.words result ≡ words_of (seen S.LogStore self.stage) }
     {
         let Console { mut stage } = self;
-        let _ = turn(&mut stage, Turn::Refuse(Refusal::BadLine));
+        let _ = turn(&mut stage, Err(Refusal::BadLine));
         store_of(stage)
     }
 }
 
-// How a line leads to another stage; nothing where it does not.
-fn next_turn<S: LogStore>(stage: &Stage<S>, command: Result<Command, Refusal>) -> Option<Turn>
+// How a line leads to another stage: to a slab of this size, or to a refusal of every later line. Nothing where it does not.
+fn next_turn<S: LogStore>(
+    stage: &Option<Stage<S>>,
+    command: Result<Command, Refusal>,
+) -> Option<Result<Size, Refusal>>
     ensures { Turns (seen S.LogStore stage.now) command result }
 {
-    match stage {
-        Stage::Fresh(_) => Some(first_turn(command)),
-        Stage::Serving(live) => match command {
-            Ok(Command::Reload) => Some(Turn::Serve(live.size())),
-            _ => None,
-        },
+    match (stage, command) {
+        (Some(Stage::Fresh(_)), first) => Some(first_size(first)),
+        (Some(Stage::Serving(live)), Ok(Command::Reload)) => Some(Ok(live.size())),
         _ => None,
-    }
-}
-
-// How the first line leads on.
-fn first_turn(command: Result<Command, Refusal>) -> Turn
-    ensures { First command result }
-{
-    match first_size(command) {
-        Ok(size) => Turn::Serve(size),
-        Err(refusal) => Turn::Refuse(refusal),
     }
 }
 
@@ -87,20 +79,20 @@ fn first_size(command: Result<Command, Refusal>) -> Result<Size, Refusal>
 }
 
 // Leads to the next stage. `finish` calls it too, so that the compiler keeps its large frame out of `answer`.
-fn turn<S: LogStore>(stage: &mut Stage<S>, next: Turn) -> Reply
-    requires { moving stage.old ≡ false }
-    ensures standing { moving stage.new ≡ false }
+fn turn<S: LogStore>(stage: &mut Option<Stage<S>>, next: Result<Size, Refusal>) -> Reply
+    requires { IsSome stage.old }
+    ensures standing { IsSome stage.new }
     ensures reply { result ≡ turn_reply next }
     ensures leaves { seen S.LogStore stage.new ≡ after_turn (seen S.LogStore stage.old) next }
     ensures sound { SoundStage (seen S.LogStore stage.new) }
 {
-    let store = store_of(std::mem::replace(stage, Stage::Moving));
+    let store = store_of(stage.take());
     match next {
-        Turn::Serve(size) => {
+        Ok(size) => {
             put(stage, Stage::Serving(Cold::open(store, size).load()));
             Reply::Done
         }
-        Turn::Refuse(refusal) => {
+        Err(refusal) => {
             put(stage, Stage::Refused(store));
             Reply::No(refusal)
         }
@@ -108,96 +100,48 @@ fn turn<S: LogStore>(stage: &mut Stage<S>, next: Turn) -> Reply
 }
 
 // The store of a stage, whose slab is closed.
-fn store_of<S: LogStore>(stage: Stage<S>) -> S
-    requires { moving stage ≡ false }
+fn store_of<S: LogStore>(stage: Option<Stage<S>>) -> S
+    requires { IsSome stage }
     ensures capacity { S.LogStore.capacity result ≡ capacity_of (seen S.LogStore stage) }
     ensures words { S.LogStore.words result ≡ words_of (seen S.LogStore stage) }
 {
     match stage {
-        Stage::Fresh(store) => store,
-        Stage::Refused(store) => store,
-        Stage::Serving(live) => live.close(),
-        Stage::Moving => unreachable(),
+        Some(Stage::Fresh(store)) => store,
+        Some(Stage::Refused(store)) => store,
+        Some(Stage::Serving(live)) => live.close(),
+        None => unreachable(),
     }
 }
 
 // Puts a stage in where none stands.
-fn put<S: LogStore>(stage: &mut Stage<S>, next: Stage<S>)
-    requires { moving stage.old ≡ true }
-    ensures { stage.new ≡ next }
+fn put<S: LogStore>(stage: &mut Option<Stage<S>>, next: Stage<S>)
+    requires { stage.old ≡ None }
+    ensures { stage.new ≡ Some next }
 {
-    match std::mem::replace(stage, next) {
-        Stage::Moving => {}
-        Stage::Fresh(_store) => unreachable(),
-        Stage::Refused(_store) => unreachable(),
-        Stage::Serving(_live) => unreachable(),
+    match stage.replace(next) {
+        None => {}
+        Some(_stage) => unreachable(),
     }
 }
 
 // The reply to a line on a slab, which stays where it is.
-fn reply<S: LogStore>(live: &mut Live<S>, command: Result<Command, Refusal>) -> Reply
+fn serve<S: LogStore>(
+    live: &mut Live<S>,
+    command: Result<Command, Refusal>,
+) -> Result<Reply, Refusal>
     requires { is_reload command ≡ false }
-    ensures answers { Answers (serving (view S.LogStore live.old)) command result (serving (view S.LogStore live.new)) }
+    ensures answers { Answers (serving (view S.LogStore live.old)) command (replied result) (serving (view S.LogStore live.new)) }
     ensures sound { Sound (view S.LogStore live.old) → Sound (view S.LogStore live.new) }
 {
-    match command {
-        Err(refusal) => Reply::No(refusal),
-        Ok(command) => serve(live, command),
-    }
-}
-
-fn serve<S: LogStore>(live: &mut Live<S>, command: Command) -> Reply
-    requires { asks_reload command ≡ false }
-    ensures answers { Answers (serving (view S.LogStore live.old)) (Ok command) result (serving (view S.LogStore live.new)) }
-    ensures sound { Sound (view S.LogStore live.old) → Sound (view S.LogStore live.new) }
-{
-    match command {
-        Command::Size(_) => Reply::No(Refusal::BadLine),
-        Command::Allocate(want) => at(live.allocate(want)),
-        Command::Free { start, length } => free(live, start, length),
-        Command::Condense => words(live.condense()),
+    Ok(match command? {
+        Command::Size(_) => return Err(Refusal::BadLine),
+        Command::Allocate(want) => Reply::At(live.allocate(want)?.start),
+        Command::Free { start, length } => {
+            live.free(Extent::new(start, length)?)?;
+            Reply::Done
+        }
+        Command::Condense => Reply::Words(live.condense()?),
         Command::Figures => Reply::Figures(live.figures()),
         Command::Reload => unreachable(),
-    }
-}
-
-// An extent by its two numbers, given back.
-fn free<S: LogStore>(live: &mut Live<S>, start: u64, length: u64) -> Reply
-    ensures answers { Answers (serving (view S.LogStore live.old)) (Ok (Command.Free start length)) result (serving (view S.LogStore live.new)) }
-    ensures sound { Sound (view S.LogStore live.old) → Sound (view S.LogStore live.new) }
-{
-    match Extent::new(start, length) {
-        Err(refusal) => Reply::No(refusal),
-        Ok(extent) => done(live.free(extent)),
-    }
-}
-
-// The reply to a grant.
-fn at(granted: Result<Extent, Refusal>) -> Reply
-    ensures { result ≡ at granted }
-{
-    match granted {
-        Ok(extent) => Reply::At(extent.start),
-        Err(refusal) => Reply::No(refusal),
-    }
-}
-
-// The reply to a return.
-fn done(freed: Result<(), Refusal>) -> Reply
-    ensures { result ≡ done freed }
-{
-    match freed {
-        Ok(()) => Reply::Done,
-        Err(refusal) => Reply::No(refusal),
-    }
-}
-
-// The reply to a condense.
-fn words(condensed: Result<usize, Refusal>) -> Reply
-    ensures { result ≡ words condensed }
-{
-    match condensed {
-        Ok(count) => Reply::Words(count),
-        Err(refusal) => Reply::No(refusal),
-    }
+    })
 }

@@ -1,11 +1,11 @@
 // What takes the lines of a script.
-ghost use Rattle.std.specs.Prelude.{◌≡◌, false};
-ghost use Rattle.script.specs.Stages.{moving};
+ghost use Rattle.std.specs.Prelude.{IsSome};
 
 use crate::stage::Stage;
 use store::LogStore;
 
 pub struct Console<S: LogStore> {
-    pub(crate) stage: Stage<S>,
-    ghost standing: { moving stage ≡ false },
+    // None stands only while a call changes it.
+    pub(crate) stage: Option<Stage<S>>,
+    ghost standing: { IsSome stage },
 }

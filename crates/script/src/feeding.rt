@@ -1,22 +1,22 @@
 // A script, given in blocks of any size.
-ghost use Rattle.std.specs.Prelude.{◌≡◌, ℕ, List, [], take};
+ghost use Rattle.std.specs.Prelude.{◌≡◌, ℕ, List, []};
 ghost use Rattle.script.specs.Stages.{seen};
 ghost use Rattle.script.specs.Feeds.{kept, Fed, Taken, Last};
 
 use crate::console::Console;
-use crate::feed::{Feed, MOST_KEPT};
+use crate::feed::Feed;
 use crate::text::add_reply;
+use arrayvec::ArrayVec;
 use std::alloc::AllocError;
 use store::LogStore;
 
 impl Feed {
     // No byte has been read.
     pub fn new() -> Feed
-        ensures { take result.len result.bytes ≡ [] }
+        ensures { result.line.items ≡ [] }
     {
         Feed {
-            bytes: [0; MOST_KEPT],
-            len: 0,
+            line: ArrayVec::new(),
         }
     }
 
@@ -27,7 +27,7 @@ impl Feed {
         bytes: &[u8],
         out: &mut Vec<u8>,
     ) -> Result<(), AllocError>
-        ensures { (line : List ℕ) → kept line ≡ take self.old.len self.old.bytes → Fed (seen S.LogStore console.old.stage) line bytes.now out.old.items (seen S.LogStore console.new.stage) (take self.new.len self.new.bytes) out.new.items result }
+        ensures { (line : List ℕ) → kept line ≡ self.old.line.items → Fed (seen S.LogStore console.old.stage) line bytes.now out.old.items (seen S.LogStore console.new.stage) self.new.line.items out.new.items result }
     {
         for b in bytes {
             self.take_byte(console, *b, out)?;
@@ -41,12 +41,12 @@ impl Feed {
         console: &mut Console<S>,
         out: &mut Vec<u8>,
     ) -> Result<(), AllocError>
-        ensures { (line : List ℕ) → kept line ≡ take self.len self.bytes → Last (seen S.LogStore console.old.stage) line out.old.items (seen S.LogStore console.new.stage) out.new.items result }
+        ensures { (line : List ℕ) → kept line ≡ self.line.items → Last (seen S.LogStore console.old.stage) line out.old.items (seen S.LogStore console.new.stage) out.new.items result }
     {
-        if self.len == 0 {
+        if self.line.is_empty() {
             return Ok(());
         }
-        add_reply(out, console.answer(&self.bytes[0..self.len]))
+        add_reply(out, console.answer(self.line.as_slice()))
     }
 
     fn take_byte<S: LogStore>(
@@ -55,14 +55,14 @@ impl Feed {
         b: u8,
         out: &mut Vec<u8>,
     ) -> Result<(), AllocError>
-        ensures { (line : List ℕ) → kept line ≡ take self.old.len self.old.bytes → Taken (seen S.LogStore console.old.stage) line b out.old.items (seen S.LogStore console.new.stage) (take self.new.len self.new.bytes) out.new.items result }
+        ensures { (line : List ℕ) → kept line ≡ self.old.line.items → Taken (seen S.LogStore console.old.stage) line b out.old.items (seen S.LogStore console.new.stage) self.new.line.items out.new.items result }
     {
         if b == b'\n' {
-            add_reply(out, console.answer(&self.bytes[0..self.len]))?;
-            self.len = 0;
-        } else if self.len < MOST_KEPT {
-            self.bytes[self.len] = b;
-            self.len += 1;
+            add_reply(out, console.answer(self.line.as_slice()))?;
+            self.line.clear();
+        } else {
+            // Where there is no room, the line is too long already.
+            let _ = self.line.try_push(b);
         }
         Ok(())
     }

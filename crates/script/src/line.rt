@@ -1,6 +1,6 @@
 // Reading a line of a script.
-ghost use Rattle.std.specs.Prelude.{◌≡◌};
-ghost use Rattle.script.specs.Lines.{spaced_at, ended, extent_numbers, command_of};
+ghost use Rattle.std.specs.Prelude.{◌≡◌, ℕ};
+ghost use Rattle.script.specs.Lines.{spaced_at, ended, one_number, extent_numbers, command_of};
 
 use crate::command::Command;
 use crate::number::{Number, read_number};
@@ -13,11 +13,10 @@ const LONGEST_LINE: usize = 64;
 fn spaced_number(line: &[u8], at: usize) -> Result<Number, Refusal>
     ensures { result ≡ spaced_at line.now at }
 {
-    if at < line.len() && line[at] == b' ' {
-        read_number(line, at + 1)
-    } else {
-        Err(Refusal::BadLine)
-    }
+    let Some(b' ') = line.get(at) else {
+        return Err(Refusal::BadLine);
+    };
+    read_number(line, at + 1)
 }
 
 // The command, if the line ends at this place.
@@ -29,6 +28,15 @@ fn at_end(line: &[u8], at: usize, command: Command) -> Result<Command, Refusal>
     } else {
         Err(Refusal::BadLine)
     }
+}
+
+// The command of the number that the rest of the line gives.
+fn one_number<F: FnOnce(u64) -> Command>(line: &[u8], make: F) -> Result<Command, Refusal>
+    requires { F.IsAlwaysCallable make }
+    ensures { (given : ℕ → Command) → ((n : ℕ) (command : Command) → F.post make n command → command ≡ given n) → result ≡ one_number given line.now }
+{
+    let number = spaced_number(line, 1)?;
+    at_end(line, number.end, make(number.value))
 }
 
 // The extent that the rest of the line frees.
@@ -48,22 +56,16 @@ fn read_extent(line: &[u8]) -> Result<Command, Refusal>
 pub fn read_line(line: &[u8]) -> Result<Command, Refusal>
     ensures { result ≡ command_of line.now }
 {
-    if line.is_empty() || line.len() > LONGEST_LINE {
+    if line.len() > LONGEST_LINE {
         return Err(Refusal::BadLine);
     }
-    match char::from(line[0]) {
-        's' => {
-            let size = spaced_number(line, 1)?;
-            at_end(line, size.end, Command::Size(size.value))
-        }
-        'a' => {
-            let want = spaced_number(line, 1)?;
-            at_end(line, want.end, Command::Allocate(want.value))
-        }
-        'f' => read_extent(line),
-        'c' => at_end(line, 1, Command::Condense),
-        'q' => at_end(line, 1, Command::Figures),
-        'r' => at_end(line, 1, Command::Reload),
+    match line.first().copied().map(char::from) {
+        Some('s') => one_number(line, Command::Size),
+        Some('a') => one_number(line, Command::Allocate),
+        Some('f') => read_extent(line),
+        Some('c') => at_end(line, 1, Command::Condense),
+        Some('q') => at_end(line, 1, Command::Figures),
+        Some('r') => at_end(line, 1, Command::Reload),
         _ => Err(Refusal::BadLine),
     }
 }

@@ -1,6 +1,7 @@
 // Reading a number of a script line.
-ghost use Rattle.std.specs.Prelude.{◌≡◌};
-ghost use Rattle.script.specs.Numbers.{number_at};
+ghost use Rattle.std.specs.Prelude.{◌≡◌, ◌≤◌, length, drop};
+ghost use Rattle.std.specs.List.{take_while};
+ghost use Rattle.script.specs.Numbers.{is_digit, front_digits, value, number_at};
 
 use slab_log::Refusal;
 
@@ -14,21 +15,40 @@ pub struct Number {
     pub end: usize,
 }
 
+// How many digits stand one after the other from a place of the line on.
+fn count_digits(line: &[u8], from: usize) -> usize
+    ensures { result ≡ length (take_while is_digit (drop from line.now)) }
+{
+    line.iter()
+        .skip(from)
+        .take_while(|b| b.is_ascii_digit())
+        .count()
+}
+
+// What these digits write in base ten.
+fn value_of(digits: &[u8]) -> u64
+    requires few { length digits.now ≤ 10 }
+    requires digits { front_digits digits.now ≡ digits.now }
+    ensures { result ≡ value digits.now }
+{
+    let mut value: u64 = 0;
+    for digit in digits {
+        value = value * 10 + u64::from(*digit - b'0');
+    }
+    value
+}
+
 // The number whose digits begin at a place of the line: 1 to 10 digits, up to the first byte that is none.
 pub fn read_number(line: &[u8], from: usize) -> Result<Number, Refusal>
     ensures { result ≡ number_at line.now from }
 {
-    let mut value: u64 = 0;
-    let mut at = from;
-    while at < line.len() && line[at].is_ascii_digit() {
-        if at - from == MOST_DIGITS {
-            return Err(Refusal::BadLine);
-        }
-        value = value * 10 + u64::from(line[at] - b'0');
-        at += 1;
-    }
-    if at == from {
+    let count = count_digits(line, from);
+    if count == 0 || count > MOST_DIGITS {
         return Err(Refusal::BadLine);
     }
-    Ok(Number { value, end: at })
+    let end = from + count;
+    Ok(Number {
+        value: value_of(&line[from..end]),
+        end,
+    })
 }

@@ -1,13 +1,11 @@
 // Writing replies.
-ghost use Rattle.std.specs.Prelude.{◌≡◌, ◌+◌, ◌≤◌, ◌++◌, length, vec_len, vec_capacity, decimal};
+ghost use Rattle.std.specs.Prelude.{◌≡◌, ◌+◌, ◌≤◌, ◌++◌, length, vec_len, vec_capacity};
 ghost use Rattle.script.specs.Replies.{text_of, AddsReply};
 
 use crate::reply::Reply;
 use disk_slab::Figures;
+use itoa::{Buffer, Integer};
 use std::alloc::AllocError;
-
-// The most digits of a number of 64 bits.
-const MOST_DIGITS: usize = 20;
 
 // The most bytes of a reply: the words of the figures, four numbers and the line feed.
 const LONGEST_REPLY: usize = 111;
@@ -23,24 +21,15 @@ fn put(out: &mut Vec<u8>, bytes: &[u8])
 }
 
 // Adds a word and a number, for which there is room.
-fn put_number(out: &mut Vec<u8>, word: &[u8], number: u64)
-    requires { vec_len out.old + (length word.now + 20) ≤ vec_capacity out.old }
-    ensures items { out.new.items ≡ out.old.items ++ (word.now ++ decimal number) }
-    ensures len { vec_len out.new ≤ vec_len out.old + (length word.now + 20) }
+fn put_number<I: Integer>(out: &mut Vec<u8>, word: &[u8], number: I)
+    requires { vec_len out.old + (length word.now + I.MAX_STR_LEN) ≤ vec_capacity out.old }
+    ensures items { out.new.items ≡ out.old.items ++ (word.now ++ I.text number) }
+    ensures len { vec_len out.new ≤ vec_len out.old + (length word.now + I.MAX_STR_LEN) }
     ensures capacity { vec_capacity out.old ≤ vec_capacity out.new }
 {
-    let mut digits = [0u8; MOST_DIGITS];
-    let mut at = MOST_DIGITS;
-    let mut left = number;
-    while left >= 10 {
-        at -= 1;
-        digits[at] = b'0' + (left % 10) as u8;
-        left /= 10;
-    }
-    at -= 1;
-    digits[at] = b'0' + left as u8;
+    let mut buffer = Buffer::new();
     put(out, word);
-    put(out, &digits[at..]);
+    put(out, buffer.format(number).as_bytes());
 }
 
 // Adds the words and numbers of the figures, for which there is room.
@@ -51,9 +40,9 @@ fn put_figures(out: &mut Vec<u8>, figures: Figures)
     ensures capacity { vec_capacity out.old ≤ vec_capacity out.new }
 {
     put_number(out, b"free ", figures.free);
-    put_number(out, b" extents ", figures.extents as u64);
+    put_number(out, b" extents ", figures.extents);
     put_number(out, b" longest ", figures.longest);
-    put_number(out, b" words ", figures.words as u64);
+    put_number(out, b" words ", figures.words);
 }
 
 // Adds the text of a reply, for which there is room.
@@ -66,9 +55,9 @@ fn put_text(out: &mut Vec<u8>, reply: Reply)
     match reply {
         Reply::Done => put(out, b"ok"),
         Reply::At(start) => put_number(out, b"at ", start),
-        Reply::Words(n) => put_number(out, b"words ", n as u64),
+        Reply::Words(n) => put_number(out, b"words ", n),
         Reply::Figures(figures) => put_figures(out, figures),
-        Reply::No(refusal) => put_number(out, b"no ", u64::from(refusal.number())),
+        Reply::No(refusal) => put_number(out, b"no ", refusal.number()),
     }
 }
 

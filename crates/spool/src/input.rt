@@ -22,7 +22,7 @@ pub(crate) fn answer_input<S: LogStore>(
         if count == 0 {
             break;
         }
-        feed.take_bytes(console, &block[0..count], &mut out)?;
+        feed.take_bytes(console, &block[..count], &mut out)?;
         output.write_all(&out)?;
         output.flush()?;
         out.clear();

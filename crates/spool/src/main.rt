@@ -1,9 +1,11 @@
 // spool: runs a script of calls from standard input on one slab, over a store of its own.
 #![tactic(auto)]
 
+mod failure;
 mod input;
 mod request;
 
+use failure::Failure;
 use input::answer_input;
 use request::Request;
 use script::Console;
@@ -39,10 +41,7 @@ A line has at most 64 bytes: a letter, then each number after one space, with 1 
 const VERSION: &str = "spool 0.1.0
 ";
 
-// Ends the program with status 1; what went wrong has been told by then.
-#[derive(Clone, Copy)]
-struct Failed;
-
+// Runs the script on standard input.
 fn run(rt: &HostRuntime) -> io::Result<()> {
     let mut console = Console::new(OwnStore::new());
     let answered = answer_input(rt, &mut console);
@@ -50,37 +49,21 @@ fn run(rt: &HostRuntime) -> io::Result<()> {
     answered
 }
 
-fn perform(rt: &HostRuntime, request: Request) -> Result<(), Failed> {
-    let done = match request {
-        Request::Run => run(rt),
-        Request::Help => rt.print(HELP),
-        Request::Version => rt.print(VERSION),
-    };
-    let Err(error) = done else {
-        return Ok(());
-    };
-    let _ = eprintln!(rt; "spool: {error}");
-    Err(Failed)
-}
-
 // Does what the command line asks for.
-fn perform_args(rt: &HostRuntime) -> Result<(), Failed> {
-    let Ok(args) = std::env::args(rt) else {
-        let _ = eprintln!(rt; "spool: an argument is no text");
-        return Err(Failed);
-    };
-    match Request::from_args(args) {
-        Some(request) => perform(rt, request),
-        None => {
-            let _ = eprintln!(rt; "spool: usage: spool [--help | --version]");
-            Err(Failed)
-        }
+fn perform(rt: &HostRuntime) -> Result<(), Failure> {
+    let args = std::env::args(rt).map_err(|_| Failure::NoText)?;
+    match Request::from_args(args).ok_or(Failure::Usage)? {
+        Request::Run => run(rt)?,
+        Request::Help => rt.print(HELP)?,
+        Request::Version => rt.print(VERSION)?,
     }
+    Ok(())
 }
 
 fn main(rt: HostRuntime) -> ExitCode {
-    match perform_args(&rt) {
-        Ok(()) => ExitCode::SUCCESS,
-        Err(Failed) => ExitCode::FAILURE,
-    }
+    let Err(failure) = perform(&rt) else {
+        return ExitCode::SUCCESS;
+    };
+    let _ = eprintln!(rt; "spool: {failure}");
+    ExitCode::FAILURE
 }

@@ -10,17 +10,14 @@ pub enum Request {
 
 impl Request {
     // What the arguments ask for, the first of which is the program; nothing where they are wrong.
-    pub(crate) fn from_args(mut args: Args) -> Option<Request> {
-        let _ = args.next();
-        let Some(option) = args.next() else {
+    pub(crate) fn from_args(args: Args) -> Option<Request> {
+        let mut options = args.skip(1);
+        let Some(option) = options.next() else {
             return Some(Request::Run);
         };
-        if args.next().is_some() {
-            return None;
-        }
-        match option.as_str() {
-            "--help" => Some(Request::Help),
-            "--version" => Some(Request::Version),
+        match (option.as_str(), options.next()) {
+            ("--help", None) => Some(Request::Help),
+            ("--version", None) => Some(Request::Version),
             _ => None,
         }
     }

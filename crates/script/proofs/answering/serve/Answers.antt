@@ -1,22 +1,52 @@
--- Each command is answered by the slab's call of its name.
-use Rattle.script.proofs.Answered.{sized_again, allocated, freed_so, condensed, shown}
+-- Each command is answered by the slab's call of its name, and a refusal that `?` passes on is the reply.
+use Rattle.std.proofs.Common.{refl}
+use Rattle.script.proofs.Answered.{refusal_replied, refused_line, sized_again, no_such_extent, allocated, freed, condensed, shown}
 use Rattle.script.proofs.answering.serve.Goals as goal
 
-pub returns-in-Size : goal.returns-in-Size
-returns-in-Size g c = record { answers = sized_again _ _ _ c.in-Size.is; sound = λ s. s }
+pub returns-in_err-command-clause-answers : goal.returns-in_err-command-clause-answers
+returns-in_err-command-clause-answers g c =
+    refused_line _ _ _ _ c.in_err-command.was (refusal_replied _ _ c.from_residual.ensures.1)
 
-pub returns-in-Allocate : goal.returns-in-Allocate
-returns-in-Allocate g c =
-    let e = c.allocate.ensures in
-    record { answers = allocated _ _ _ _ _ _ c.in-Allocate.is e.answer e.leaves c.at.ensures; sound = e.sound }
+pub returns-in-Size-clause-answers : goal.returns-in-Size-clause-answers
+returns-in-Size-clause-answers g c = sized_again _ _ _ _ c.in_ok-command.was _ c.in-Size.is refl
 
-pub returns-in-Free : goal.returns-in-Free
-returns-in-Free g c = record { answers = freed_so _ _ _ _ _ _ c.in-Free.is c.free.ensures.answers; sound = c.free.ensures.sound }
+pub returns-in_err-allocate-in-Allocate-clause-answers : goal.returns-in_err-allocate-in-Allocate-clause-answers
+returns-in_err-allocate-in-Allocate-clause-answers g c =
+    let e = c.in_err-allocate-in-Allocate.ensures in
+    allocated _ _ _ _ c.in_ok-command.was _ _ _ c.in-Allocate.is e.answer e.leaves
+    (refusal_replied _ _ c.from_residual-in_err-allocate-in-Allocate.ensures.1)
 
-pub returns-in-Condense : goal.returns-in-Condense
-returns-in-Condense g c =
-    let e = c.condense.ensures in
-    record { answers = condensed _ _ _ _ _ _ c.in-Condense.is e.answer e.leaves c.words.ensures; sound = e.sound }
+pub returns-in_ok-allocate-in-Allocate-clause-answers : goal.returns-in_ok-allocate-in-Allocate-clause-answers
+returns-in_ok-allocate-in-Allocate-clause-answers g c =
+    let e = c.in_ok-allocate-in-Allocate.ensures in
+    allocated _ _ _ _ c.in_ok-command.was _ _ _ c.in-Allocate.is e.answer e.leaves refl
 
-pub returns-in-Figures : goal.returns-in-Figures
-returns-in-Figures g c = record { answers = shown _ _ _ c.in-Figures.is c.figures.ensures; sound = λ s. s }
+pub returns-in_err-new-in-Free-clause-answers : goal.returns-in_err-new-in-Free-clause-answers
+returns-in_err-new-in-Free-clause-answers g c =
+    no_such_extent _ _ _ _ c.in_ok-command.was _ _ _ c.in-Free.is c.in_err-new-in-Free.ensures
+    (refusal_replied _ _ c.from_residual-in_err-new-in-Free.ensures.1)
+
+pub returns-in_err-free-in-Free-clause-answers : goal.returns-in_err-free-in-Free-clause-answers
+returns-in_err-free-in-Free-clause-answers g c =
+    let e = c.in_err-free-in-Free.ensures in
+    freed _ _ _ _ c.in_ok-command.was _ _ _ _ _ c.in-Free.is c.in_ok-new-in-Free.ensures e.answer e.leaves
+    (refusal_replied _ _ c.from_residual-in_err-free-in-Free.ensures.1)
+
+pub returns-in_ok-free-in-Free-clause-answers : goal.returns-in_ok-free-in-Free-clause-answers
+returns-in_ok-free-in-Free-clause-answers g c =
+    let e = c.in_ok-free-in-Free.ensures in
+    freed _ _ _ _ c.in_ok-command.was _ _ _ _ _ c.in-Free.is c.in_ok-new-in-Free.ensures e.answer e.leaves refl
+
+pub returns-in_err-condense-in-Condense-clause-answers : goal.returns-in_err-condense-in-Condense-clause-answers
+returns-in_err-condense-in-Condense-clause-answers g c =
+    let e = c.in_err-condense-in-Condense.ensures in
+    condensed _ _ _ _ c.in_ok-command.was _ _ _ c.in-Condense.is e.answer e.leaves
+    (refusal_replied _ _ c.from_residual-in_err-condense-in-Condense.ensures.1)
+
+pub returns-in_ok-condense-in-Condense-clause-answers : goal.returns-in_ok-condense-in-Condense-clause-answers
+returns-in_ok-condense-in-Condense-clause-answers g c =
+    let e = c.in_ok-condense-in-Condense.ensures in
+    condensed _ _ _ _ c.in_ok-command.was _ _ _ c.in-Condense.is e.answer e.leaves refl
+
+pub returns-in-Figures-clause-answers : goal.returns-in-Figures-clause-answers
+returns-in-Figures-clause-answers g c = shown _ _ _ _ c.in_ok-command.was _ c.in-Figures.is c.figures.ensures refl

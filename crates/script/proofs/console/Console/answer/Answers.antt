@@ -1,9 +1,9 @@
 -- A line leads to the next stage, or the slab answers it, or it is refused.
-use Rattle.std.proofs.Common.{subst}
+use Rattle.std.proofs.Common.{Some, Option, ap, ◌∙◌, subst}
 use Rattle.script.specs.Stages.{seen, SoundStage}
 use Rattle.script.specs.declared.stage.Stage.{Stage}
 use Rattle.script.specs.declared.stage.Stage.TheVariants.{Serving}
-use Rattle.script.proofs.Answered.{read_as, turned, stood, turned_away}
+use Rattle.script.proofs.Answered.{read_as, turned, unwrapped, stood, still_refused}
 use Rattle.script.proofs.console.Console.answer.Goals as goal
 
 pub returns-in-Some : goal.returns-in-Some
@@ -14,20 +14,23 @@ returns-in-Some g c =
       sound = λ _. e.sound;
     }
 
-pub returns-in-Serving : goal.returns-in-Serving
-returns-in-Serving g c =
+pub returns-in-Some-Serving : goal.returns-in-Some-Serving
+returns-in-Some-Serving g c =
     let G = g.S.LogStore in
-    record {
-      answers = read_as c.read_line-command.ensures (stood G _ (Serving c.in-Serving.live) c.in-Serving.is c.reply.ensures.answers);
-      sound = λ s. c.reply.ensures.sound (subst (λ (t : Stage g.row.S.Denot). SoundStage (seen G t)) c.in-Serving.is s);
-    }
-
-pub returns-in_default-stage : goal.returns-in_default-stage
-returns-in_default-stage g c =
-    let now = c.args.self.now in
+    let is = c.in-Some-Serving.is ∙ ap Some c.in-Some-Serving.field-0-is in
     record {
       answers =
           read_as c.read_line-command.ensures
-          (turned_away g.S.LogStore now.stage _ now.standing c.in_default.ensures c.in_default-stage.not-Serving);
-      sound = λ s. s;
+          (stood G _ (Some (Serving c.in-Some-Serving.live)) is
+          (unwrapped c.serve.result _ c.unwrap_or_else.ensures c.serve.ensures.answers));
+      sound = λ s. c.serve.ensures.sound (subst (λ (t : Option (Stage g.row.S.Denot)). SoundStage (seen G t)) is s);
+    }
+
+pub returns-in-Some-Refused : goal.returns-in-Some-Refused
+returns-in-Some-Refused g c =
+    let G = g.S.LogStore in
+    let is = c.in-Some-Refused.is in
+    record {
+      answers = read_as c.read_line-command.ensures (still_refused G _ _ _ is c.in-Some-Refused.field-0-is);
+      sound = λ s. subst (λ (t : Option (Stage g.row.S.Denot)). SoundStage (seen G t)) is s;
     }
