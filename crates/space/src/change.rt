@@ -112,8 +112,14 @@ impl Space {
         ensures { LeftEdge (starts self.now.by_start) start result }
     {
         match self.by_start.highest_before(start) {
-            Some(e) if e.key + e.value == start => e.key,
-            _ => start,
+            None => start,
+            Some(e) => {
+                if e.key + e.value == start {
+                    e.key
+                } else {
+                    start
+                }
+            }
         }
     }
 

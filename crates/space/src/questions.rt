@@ -33,7 +33,10 @@ impl Space {
     pub fn longest(&self) -> u64
         ensures { Longest (free_in self.now) result }
     {
-        self.by_length.last().map_or(0, |e| e.key.len)
+        match self.by_length.last() {
+            None => 0,
+            Some(e) => e.key.len,
+        }
     }
 
     // The shortest free extent with at least so many sectors, and of equally short ones the lowest.

@@ -11,18 +11,18 @@ overflow_add-e c =
     let p = previous_in now _ _ c.in-Some.e c.highest_before.ensures c.in-Some.is in
     omega (arith, (lies_in now _ _ p.listed).within, now.size.most)
 
-pub returns-in_default-2 : goal.returns-in_default-2
-returns-in_default-2 c =
-    left_none _ _ (spaced_in c.args.self.now) c.args.start (previous_none _ _ (sym c.highest_before.ensures ∙ c.in_default.is))
+pub returns-in-None : goal.returns-in-None
+returns-in-None c =
+    left_none _ _ (spaced_in c.args.self.now) c.args.start (previous_none _ _ (sym c.highest_before.ensures ∙ c.in-None.is))
 
-pub returns-in-Some : goal.returns-in-Some
-returns-in-Some c =
+pub returns-then-e-start : goal.returns-then-e-start
+returns-then-e-start c =
     let now = c.args.self.now in
     let p = previous_in now _ _ c.in-Some.e c.highest_before.ensures c.in-Some.is in
     left_some _ _ (spaced_in now) c.args.start c.in-Some.e p c.if-e-start.true
 
-pub returns-in_default : goal.returns-in_default
-returns-in_default c =
+pub returns-else-e-start : goal.returns-else-e-start
+returns-else-e-start c =
     let now = c.args.self.now in
     let p = previous_in now _ _ c.in-Some.e c.highest_before.ensures c.in-Some.is in
     left_apart _ _ (spaced_in now) c.args.start c.in-Some.e p c.if-e-start.false
