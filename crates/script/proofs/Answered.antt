@@ -80,11 +80,11 @@ turned (serving v) (Ok Figures) (Ok size) (asks, same) = let z : ◌≡◌ {A = 
 
 module _ {S : Type 0} (G : Ghosts S) where
   -- the stage that stood is known
-  pub stood : {command : Result Command Refusal} {reply : Reply} {after : Seen} (before was : Option (Stage S)) → before ≡ was →
+  pub stood : {command : Result Command Refusal} {reply : Reply} {after : Seen} (before was : Option (Stage S G)) → before ≡ was →
       Answers (seen G was) command reply after → Answers (seen G before) command reply after
   stood before was is answer = rw is answer
 
   -- a line after one that was refused
-  pub still_refused : {line : Result Command Refusal} (stage : Option (Stage S)) (stands : Stage S) (store : S) → stage ≡ Some stands →
+  pub still_refused : {line : Result Command Refusal} (stage : Option (Stage S G)) (stands : Stage S G) (store : S) → stage ≡ Some stands →
       stands ≡ Refused store → Answers (seen G stage) line (No BadLine) (seen G (Some stands))
   still_refused stage stands store is was = rw (is, was) after_refusal

@@ -2,7 +2,7 @@
 use Rattle.std.specs.Prelude.{ℕ, Bool, true, false, List, [], Some, None, Ok, Err, Option, Result}
 use Rattle.slab_log.specs.declared.refusal.Refusal.{Refusal}
 use Rattle.store.specs.declared.log_store.LogStore.{Ghosts}
-use Rattle.disk_slab.specs.View.{View, view, Sound}
+use Rattle.disk_slab.specs.View.{View, view}
 use Rattle.script.specs.declared.command.Command.{Command}
 use Rattle.script.specs.declared.command.Command.TheVariants.{Size, Allocate, Free, Condense, Figures, Reload}
 use Rattle.script.specs.declared.stage.Stage.{Stage}
@@ -24,12 +24,6 @@ words_of (fresh capacity words) = words
 words_of (refused capacity words) = words
 words_of (serving v) = v.words
 
--- a slab's log replays to its free sectors
-abbrev pub SoundStage : Seen → Type 0
-SoundStage (fresh capacity words) = Unit {0}
-SoundStage (refused capacity words) = Unit {0}
-SoundStage (serving v) = Sound v
-
 abbrev pub asks_reload : Command → Bool
 asks_reload (Size _) = false
 asks_reload (Allocate _) = false
@@ -44,7 +38,7 @@ is_reload (Err _) = false
 
 module _ {S : Type 0} (G : Ghosts S) where
   -- of a console's stage; none stands only while a call changes it
-  abbrev pub seen : Option (Stage S) → Seen
+  abbrev pub seen : Option (Stage S G) → Seen
   seen (Some (Fresh store)) = fresh (G.capacity store) (G.words store)
   seen (Some (Refused store)) = refused (G.capacity store) (G.words store)
   seen (Some (Serving live)) = serving (view G live)

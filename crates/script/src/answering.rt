@@ -1,8 +1,8 @@
 // Answering the lines of a script.
 ghost use Rattle.std.specs.Prelude.{◌≡◌, false, Some, None, IsSome};
-ghost use Rattle.disk_slab.specs.View.{view, Sound};
+ghost use Rattle.disk_slab.specs.View.{view};
 ghost use Rattle.script.specs.Lines.{command_of};
-ghost use Rattle.script.specs.Stages.{is_reload, seen, capacity_of, words_of, SoundStage};
+ghost use Rattle.script.specs.Stages.{is_reload, seen, capacity_of, words_of};
 ghost use Rattle.script.specs.Answers.{Answers, Sizes, replied};
 ghost use Rattle.script.specs.Turns.{Turns, turn_reply, after_turn};
 ghost use Rattle.script.specs.Stages.{serving};
@@ -29,7 +29,6 @@ impl<S: LogStore> Console<S> {
     // The reply to the next line, which is given without its line feed.
     pub fn answer(&mut self, line: &[u8]) -> Reply
         ensures answers { Answers (seen S.LogStore self.old.stage) (command_of line.now) result (seen S.LogStore self.new.stage) }
-        ensures sound { SoundStage (seen S.LogStore self.old.stage) → SoundStage (seen S.LogStore self.new.stage) }
     {
         let command = read_line(line);
         if let Some(next) = next_turn(&self.stage, command) {
@@ -84,7 +83,6 @@ fn turn<S: LogStore>(stage: &mut Option<Stage<S>>, next: Result<Size, Refusal>) 
     ensures standing { IsSome stage.new }
     ensures reply { result ≡ turn_reply next }
     ensures leaves { seen S.LogStore stage.new ≡ after_turn (seen S.LogStore stage.old) next }
-    ensures sound { SoundStage (seen S.LogStore stage.new) }
 {
     let store = store_of(stage.take());
     match next {
@@ -130,8 +128,7 @@ fn serve<S: LogStore>(
     command: Result<Command, Refusal>,
 ) -> Result<Reply, Refusal>
     requires { is_reload command ≡ false }
-    ensures answers { Answers (serving (view S.LogStore live.old)) command (replied result) (serving (view S.LogStore live.new)) }
-    ensures sound { Sound (view S.LogStore live.old) → Sound (view S.LogStore live.new) }
+    ensures { Answers (serving (view S.LogStore live.old)) command (replied result) (serving (view S.LogStore live.new)) }
 {
     Ok(match command? {
         Command::Size(_) => return Err(Refusal::BadLine),

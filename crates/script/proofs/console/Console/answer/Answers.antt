@@ -1,7 +1,5 @@
 -- A line leads to the next stage, or the slab answers it, or it is refused.
-use Rattle.std.proofs.Common.{Some, Option, ap, ◌∙◌, subst}
-use Rattle.script.specs.Stages.{seen, SoundStage}
-use Rattle.script.specs.declared.stage.Stage.{Stage}
+use Rattle.std.proofs.Common.{Some, ap, ◌∙◌}
 use Rattle.script.specs.declared.stage.Stage.TheVariants.{Serving}
 use Rattle.script.proofs.Answered.{read_as, turned, unwrapped, stood, still_refused}
 use Rattle.script.proofs.console.Console.answer.Goals as goal
@@ -11,7 +9,6 @@ returns-in-Some g c =
     let e = c.turn.ensures in
     record {
       answers = read_as c.read_line-command.ensures (rw (e.reply, e.leaves) (turned _ _ c.in-Some.next c.in-Some.ensures));
-      sound = λ _. e.sound;
     }
 
 pub returns-in-Some-Serving : goal.returns-in-Some-Serving
@@ -22,8 +19,7 @@ returns-in-Some-Serving g c =
       answers =
           read_as c.read_line-command.ensures
           (stood G _ (Some (Serving c.in-Some-Serving.live)) is
-          (unwrapped c.serve.result _ c.unwrap_or_else.ensures c.serve.ensures.answers));
-      sound = λ s. c.serve.ensures.sound (subst (λ (t : Option (Stage g.row.S.Denot)). SoundStage (seen G t)) is s);
+          (unwrapped c.serve.result _ c.unwrap_or_else.ensures c.serve.ensures));
     }
 
 pub returns-in-Some-Refused : goal.returns-in-Some-Refused
@@ -32,5 +28,4 @@ returns-in-Some-Refused g c =
     let is = c.in-Some-Refused.is in
     record {
       answers = read_as c.read_line-command.ensures (still_refused G _ _ _ is c.in-Some-Refused.field-0-is);
-      sound = λ s. subst (λ (t : Option (Stage g.row.S.Denot)). SoundStage (seen G t)) is s;
     }
