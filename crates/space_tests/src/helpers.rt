@@ -23,10 +23,7 @@ pub(crate) fn store_of(words: &[u64]) -> Result<OwnStore, Refusal> {
 
 // Where and why the replay of a store's log stops, or nothing where it does not.
 pub(crate) fn stop_of<S: LogStore>(store: &S, size: Size) -> Option<Stop> {
-    match Space::replay(store, size) {
-        Ok(_) => None,
-        Err(stop) => Some(stop),
-    }
+    Space::replay(store, size).err()
 }
 
 // The same for a log of these words, on a slab of so many sectors.

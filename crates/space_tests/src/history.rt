@@ -24,19 +24,15 @@ fn is_free(map: &[bool], sector: usize) -> bool {
 
 // How many sectors from `start` on, of at most `want`, are all free or all in use.
 fn alike(map: &[bool], start: usize, want: usize) -> usize {
-    for n in 1..want {
-        if is_free(map, start.saturating_add(n)) != is_free(map, start) {
-            return n;
-        }
-    }
-    want
+    let free = is_free(map, start);
+    (1..want)
+        .find(|n| is_free(map, start.saturating_add(*n)) != free)
+        .unwrap_or(want)
 }
 
 fn mark(map: &mut [bool], start: usize, n: usize, free: bool) {
-    for sector in start..start.saturating_add(n) {
-        if sector < map.len() {
-            map[sector] = free;
-        }
+    for sector in map.iter_mut().skip(start).take(n) {
+        *sector = free;
     }
 }
 
@@ -75,11 +71,7 @@ fn write_history<S: LogStore>(
 
 // How many sectors of the map are free.
 fn count(map: &[bool]) -> u64 {
-    let mut n = 0u64;
-    for free in map {
-        n = n.wrapping_add(u64::from(*free));
-    }
-    n
+    map.iter().filter(|free| **free).count() as u64
 }
 
 // How many runs of free sectors it has.
@@ -108,9 +100,9 @@ fn agrees(rt: &impl Abort, space: &Space, map: &[bool]) -> Result<(), Fail> {
     assert_eq!(rt; space.free_sectors(), count(map));
     assert_eq!(rt; space.free_extents(), runs(map));
     assert_eq!(rt; space.longest(), longest(map));
-    for s in 0..SECTORS {
+    for (s, free) in map.iter().enumerate() {
         let sector = Extent::new(s as u64, 1)?;
-        assert_eq!(rt; space.has_free(sector), is_free(map, s), "{}", s);
+        assert_eq!(rt; space.has_free(sector), *free, "{}", s);
     }
     Ok(())
 }
