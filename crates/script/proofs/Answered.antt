@@ -1,7 +1,7 @@
 -- What a line is answered with, from what the slab's call answered and left.
-use Rattle.std.proofs.Common.{◌≡◌, ℕ, List, Some, Ok, Err, Option, Result, refl, arith}
+use Rattle.std.proofs.Common.{◌≡◌, ℕ, true, List, Some, Ok, Err, Option, Result, refl, arith}
 use Rattle.std.proofs.lemmas.Result.{err_from_is_err_and}
-use Rattle.std.specs.Result.{MatchResult, IsErrAnd}
+use Rattle.std.specs.Result.{IsErrAnd}
 use Rattle.slab_log.specs.Make.{MakesExtent}
 use Rattle.slab_log.specs.declared.extent.Extent.{Extent}
 use Rattle.slab_log.specs.declared.refusal.Refusal.{Refusal}
@@ -14,7 +14,7 @@ use Rattle.script.specs.declared.stage.Stage.{Stage}
 use Rattle.script.specs.declared.stage.Stage.TheVariants.{Refused}
 use Rattle.disk_slab.specs.Answers.{Allocates, after_allocate, Frees, after_free, Condenses, with_words, Shows}
 use Rattle.disk_slab.specs.declared.figures.Figures.{Figures as Slab-figures}
-use Rattle.script.specs.Stages.{Seen, fresh, refused, serving, seen}
+use Rattle.script.specs.Stages.{Seen, fresh, refused, serving, is_reload, seen}
 use Rattle.script.specs.Answers.{Answers, replied, at, done, words, sized, not_sized, after_refusal, against_form, second_size, allocates, no_extent, frees, condenses, shows, reloads}
 use Rattle.script.specs.declared.command.Command.{Command}
 use Rattle.script.specs.declared.command.Command.TheVariants.{Size, Allocate, Free, Condense, Figures, Reload}
@@ -29,12 +29,6 @@ read_as is answer = rw is at answer
 -- a call's refusal, passed on by `?`, is the reply
 pub refusal_replied : (r : Result Reply Refusal) (e : Refusal) → IsErrAnd r (λ x. x ≡ e) → replied r ≡ No e
 refusal_replied r e h = let p = err_from_is_err_and r h in rw (p.1, p.2) refl
-
--- a result that is unwrapped is answered by the reply in it, or by its refusal
-pub unwrapped : {before after : Seen} {line : Result Command Refusal} (r : Result Reply Refusal) (reply : Reply) →
-    MatchResult r (λ x. reply ≡ x) (λ e. reply ≡ No e) → Answers before line (replied r) after → Answers before line reply after
-unwrapped (Ok x) reply is answer = rw is answer
-unwrapped (Err e) reply is answer = rw is answer
 
 module _ (v : View) (line : Result Command Refusal) (reply : Reply) where
   pub refused_line : (e : Refusal) → line ≡ Err e → reply ≡ No e → Answers (serving v) line reply (serving v)
@@ -64,26 +58,19 @@ module _ (v : View) (line : Result Command Refusal) (reply : Reply) where
           Answers (serving v) line reply (serving w)
       condensed log r is answer left shows-it = rw (reads, is, left, shows-it) (condenses answer)
 
+-- only one command reloads
+reload_only : (line : Result Command Refusal) → is_reload line ≡ true → line ≡ Ok Reload
+reload_only line asks = grind arith
+
 -- a line that leads to another stage
 pub turned : (s : Seen) (command : Result Command Refusal) (next : Result Slab-size Refusal) → Again s command next → Answers s command (turn_reply next) (after_turn s next)
 turned (fresh capacity log) command (Ok size) asks = sized size asks
 turned (fresh capacity log) command (Err e) asks = not_sized asks
 turned (refused capacity log) command next none = absurd none
 turned (serving v) command (Err e) none = absurd none
-turned (serving v) (Err e) (Ok size) (asks, same) = let z : ◌≡◌ {A = ℕ} 0 1 = cc in absurd (omega arith)
-turned (serving v) (Ok Reload) (Ok size) (asks, same) = rw same reloads
-turned (serving v) (Ok (Size _)) (Ok size) (asks, same) = let z : ◌≡◌ {A = ℕ} 0 1 = cc in absurd (omega arith)
-turned (serving v) (Ok (Allocate _)) (Ok size) (asks, same) = let z : ◌≡◌ {A = ℕ} 0 1 = cc in absurd (omega arith)
-turned (serving v) (Ok (Free _ _)) (Ok size) (asks, same) = let z : ◌≡◌ {A = ℕ} 0 1 = cc in absurd (omega arith)
-turned (serving v) (Ok Condense) (Ok size) (asks, same) = let z : ◌≡◌ {A = ℕ} 0 1 = cc in absurd (omega arith)
-turned (serving v) (Ok Figures) (Ok size) (asks, same) = let z : ◌≡◌ {A = ℕ} 0 1 = cc in absurd (omega arith)
+turned (serving v) command (Ok size) (asks, same) = rw (reload_only command asks, same) reloads
 
 module _ {S : Type 0} (G : Ghosts S) where
-  -- the stage that stood is known
-  pub stood : {command : Result Command Refusal} {reply : Reply} {after : Seen} (before was : Option (Stage S G)) → before ≡ was →
-      Answers (seen G was) command reply after → Answers (seen G before) command reply after
-  stood before was is answer = rw is answer
-
   -- a line after one that was refused
   pub still_refused : {line : Result Command Refusal} (stage : Option (Stage S G)) (stands : Stage S G) (store : S) → stage ≡ Some stands →
       stands ≡ Refused store → Answers (seen G stage) line (No BadLine) (seen G (Some stands))

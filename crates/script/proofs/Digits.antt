@@ -1,6 +1,6 @@
 -- The digits at the front of a list, and a loop over them: what it keeps, each step, and what its end gives.
 use Rattle.std.proofs.Common.{◌≡◌, ℕ, ◌+◌, ◌-◌, ◌*◌, ◌^◌, ◌<◌, ◌≤◌, true, false, leb, ◌≢◌, Bool, cond, ◌⊎◌, inl, inr, suc, zero, List, [], ◌∷◌, ◌++◌, length, get_or, take, drop, Ok, Err, sym, refl, ap, ◌∙◌, arith, pow-add}
-use Rattle.std.proofs.lemmas.List.{drop_more, drop_all}
+use Rattle.std.proofs.lemmas.List.{drop_more}
 use Rattle.std.proofs.Math.Seq.{take-append_seam}
 use Rattle.std.proofs.lemmas.List.Folds.{length-prefix_len}
 use Rattle.std.specs.List.{prefix_len, take_while}
@@ -90,9 +90,6 @@ pub record Read (ds : List ℕ) (i v : ℕ) : Type 0 where
   pub small : v < 10 ^ i
   pub value_same : value_after v (front_digits (drop i ds)) ≡ value (front_digits ds)
 
-pub begun : (ds : List ℕ) → Read ds 0 0
-begun ds = record { few = omega arith; small = omega arith; value_same = refl }
-
 power_more : (k v d : ℕ) → v < 10 ^ k → d < 10 → v * 10 + d < 10 ^ (k + 1)
 power_more k v d h e = rw (pow-add 10 k 1) (omega arith)
 
@@ -109,9 +106,3 @@ read_more ds i v r h few d =
       small = power_more i v (get_or ds i 0 - 48) r.small small;
       value_same = ap (value_after v) (sym more) ∙ r.value_same;
     }
-
--- where the digits end, they are read
-pub read_whole : (ds : List ℕ) (i v : ℕ) → Read ds i v → length ds ≤ i → v ≡ value (front_digits ds)
-read_whole ds i v r end =
-    let none : front_digits (drop i ds) ≡ [] = rw (drop_all i ds end) refl in
-    sym (ap (value_after v) none) ∙ r.value_same

@@ -2,10 +2,9 @@
 ghost use Rattle.std.specs.Prelude.{◌≡◌, false, Some, None, IsSome};
 ghost use Rattle.disk_slab.specs.View.{view};
 ghost use Rattle.script.specs.Lines.{command_of};
-ghost use Rattle.script.specs.Stages.{is_reload, seen, capacity_of, words_of};
+ghost use Rattle.script.specs.Stages.{is_reload, seen, serving, capacity_of, words_of};
 ghost use Rattle.script.specs.Answers.{Answers, Sizes, replied};
 ghost use Rattle.script.specs.Turns.{Turns, turn_reply, after_turn};
-ghost use Rattle.script.specs.Stages.{serving};
 
 use crate::command::Command;
 use crate::console::Console;
@@ -123,6 +122,7 @@ fn put<S: LogStore>(stage: &mut Option<Stage<S>>, next: Stage<S>)
 }
 
 // The reply to a line on a slab, which stays where it is.
+#[tactic(auto, using(crate::proofs::Answered::refusal_replied, crate::proofs::Answered::refused_line, crate::proofs::Answered::sized_again, crate::proofs::Answered::no_such_extent, crate::proofs::Answered::allocated, crate::proofs::Answered::freed, crate::proofs::Answered::condensed, crate::proofs::Answered::shown))]
 fn serve<S: LogStore>(
     live: &mut Live<S>,
     command: Result<Command, Refusal>,

@@ -17,6 +17,7 @@ pub(crate) fn answer_input<S: LogStore>(
     let mut feed = Feed::new();
     let mut input = rt.stdin();
     let mut output = rt.stdout();
+    // A loop has to end by its count: no script is read in so many blocks.
     for _ in 0..u64::MAX {
         let count = input.read(&mut block)?;
         if count == 0 {
