@@ -1,6 +1,6 @@
 -- What is kept of a line reads like the whole line, and grows with it; bytes are fed one by one.
 use Rattle.std.proofs.Common.{◌≡◌, ℕ, ◌+◌, ◌<◌, ◌≤◌, min, ◌⊎◌, List, [], ◌∷◌, ◌++◌, length, get_or, take, Ok, Err, Result, sym, refl, ap, ◌∙◌, subst, inl, inr, append_assoc, append-nil, arith, length-append, length-take}
-use Rattle.std.proofs.lemmas.List.{take_all, take-append-le, take_more}
+use Rattle.std.proofs.lemmas.List.{nil_from_length, take_all, take-append-le, take_more}
 use Rattle.std.proofs.lemmas.Bool.{lt-leb, cases_lt}
 use Rattle.std.specs.Result.{IsOk, OnOk, OnErr}
 use Rattle.arrayvec.specs.ArrayVec.{ArrayVec}
@@ -45,11 +45,7 @@ module _ (held : List ℕ) (line : List ℕ) (is : kept line ≡ held) where
       kept_full b (omega (arith, ap length same, full)) ∙ (sym same ∙ ap (λ v. v.items) (sym stays))
 
   pub kept_none : length held ≡ 0 → line ≡ []
-  kept_none none = go line (omega (arith, lengths))
-    where
-      go : (l : List ℕ) → length l ≡ 0 → l ≡ []
-      go [] e = refl
-      go (x ∷ xs) e = absurd (omega arith)
+  kept_none none = nil_from_length line (omega (arith, lengths))
 
   pub kept_some : ¬ (length held ≡ 0) → ¬ (line ≡ [])
   kept_some some empty = some (omega (arith, lengths, ap length empty))

@@ -25,7 +25,7 @@ fn count_digits(line: &[u8], from: usize) -> usize
         .count()
 }
 
-// What these digits write in base ten.
+// What these digits write in base ten. A fold is no plainer: its closure would have to show of any sum that the next fits.
 fn value_of(digits: &[u8]) -> u64
     requires few { length digits.now ≤ 10 }
     requires digits { front_digits digits.now ≡ digits.now }

@@ -1,4 +1,4 @@
-// Writing replies.
+// Writing replies. No Display for them: it is no plainer, as add_reply also owes that all of a line is added or nothing.
 ghost use Rattle.std.specs.Prelude.{◌≡◌, ◌+◌, ◌≤◌, ◌++◌, length, vec_len, vec_capacity};
 ghost use Rattle.script.specs.Replies.{text_of, AddsReply};
 
