@@ -3,12 +3,12 @@ use Rattle.std.proofs.Common.{◌≡◌, ℕ, zero, suc, ◌+◌, ◌-◌, ◌<�
 use Rattle.std.proofs.lemmas.Bool.{cases_eq, cases_lt, cases_order}
 use Rattle.table.specs.declared.node.Node.{Node}
 use Rattle.std.specs.List.{slice_get}
-use Rattle.std.proofs.lemmas.Option.{slice_get-get_or, slice_get_past}
+use Rattle.std.proofs.lemmas.Option.{slice_get-get_or, slice_get_past, slice_get_within}
 use Rattle.table.specs.Least.{counts, Rising, Fewest}
 use Rattle.table.specs.Tree.{Item, Tree, leaf, node, tall, inorder, one, uses, Rep, Near, Avl}
 use Rattle.table.specs.Edit.{Once}
 use Rattle.table.specs.Pairs.{Each}
-use Rattle.table.proofs.Model.{nth_within, one_at, one_off}
+use Rattle.table.proofs.Model.{one_at, one_off}
 use Rattle.table.proofs.Descending.{each_append}
 use Rattle.table.proofs.Listed.{by_rule}
 
@@ -120,7 +120,7 @@ module _ {K V : Type 0} where
 
   pub each_held : (xs : List (Node K V)) (t : Tree K V) → Rep xs t → Each (λ (x : Item K V). x.at < length xs) (inorder t)
   each_held xs leaf h = tt
-  each_held xs (node x l r) h = each_append _ (inorder l) (x ∷ inorder r) (each_held xs l h.2) (nth_within xs x.at _ h.1, each_held xs r h.3)
+  each_held xs (node x l r) h = each_append _ (inorder l) (x ∷ inorder r) (each_held xs l h.2) (slice_get_within xs x.at _ h.1, each_held xs r h.3)
 
   -- the items of a tree that a slice holds are no more than its records
   pub few_items : (xs : List (Node K V)) (t : Tree K V) → Rep xs t → Once (inorder t) → length (inorder t) ≤ length xs

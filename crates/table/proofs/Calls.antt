@@ -1,8 +1,8 @@
 -- What each call of a table leaves in sound records, and what it answers.
-use Rattle.std.proofs.Common.{◌≡◌, ℕ, ◌+◌, ◌-◌, ◌<◌, ◌≤◌, Bool, true, false, not, ◌&&◌, ltb, ◌≢◌, List, [], ◌∷◌, ◌++◌, map, length, set, Some, None, sym, refl, ap, ◌∙◌, subst, ⊎_elim, arith, length-append}
+use Rattle.std.proofs.Common.{rules, ◌≡◌, ℕ, ◌+◌, ◌-◌, ◌<◌, ◌≤◌, Bool, true, false, not, ◌&&◌, ltb, ◌≢◌, List, [], ◌∷◌, ◌++◌, map, length, set, Some, None, sym, refl, ap, ◌∙◌, subst, ⊎_elim, arith, length-append}
 use lib.ListN.{length-map}
 use Rattle.std.specs.List.{slice_get}
-use Rattle.std.proofs.lemmas.Option.{slice_get_past}
+use Rattle.std.proofs.lemmas.Option.{slice_get_past, slice_get_within}
 use Rattle.std.proofs.lemmas.List.{length-set}
 use Rattle.std.proofs.lemmas.Bool.{cases_eq, lt-ltb, le-ltb}
 use Rattle.table.specs.declared.node.Node.{Node}
@@ -16,7 +16,7 @@ use Rattle.table.specs.Search.{Free, Became, Under, Over}
 use Rattle.table.specs.Change.{Absent, Present}
 use Rattle.table.specs.Parts.{front_at, final, NotUnder, Parted}
 use Rattle.table.specs.Sound.{given, spare, Chain, Holds, entry, entry_at}
-use Rattle.table.proofs.Model.{nth_within, nth_some, nth_set_other, one_at, one_off, uses_append, uses_node, same_some}
+use Rattle.table.proofs.Model.{nth_some, nth_set_other, one_at, one_off, uses_append, uses_node, same_some}
 use Rattle.table.proofs.Turn.{still}
 use Rattle.table.proofs.Descending.{each_append, each_left, each_right}
 use Rattle.table.proofs.Unused.{chain_frame, chain_more}
@@ -24,8 +24,7 @@ use Rattle.table.proofs.Soundness.{all_counted}
 use Rattle.table.proofs.Pairs.{put_between, key_absent, key_present, key_parts, pairs_append, pairs_each}
 
 and_off : (p q : Bool) → q ≡ false → false ≡ (p && q)
-and_off true q e = sym e
-and_off false q e = refl
+and_off p q e = grind rules
 
 module _ {K V : Type 0} where
   -- the record of an item has its key and its value
@@ -40,7 +39,7 @@ module _ {K V : Type 0} where
       each_append (Reads xs) (inorder l) (x ∷ inorder r) (reads xs l h.2) (
         record {
           linkable = h.0;
-          within = nth_within xs x.at _ h.1;
+          within = slice_get_within xs x.at _ h.1;
           has_pair = λ n e. ap (λ (m : Node K V). pair m.key m.value) (same_some n (cell x l r) (sym e ∙ h.1));
         },
         reads xs r h.3,
@@ -118,7 +117,7 @@ module _ {K V : Type 0} where
     spare_at u rest is place =
         let chained : Chain xs (u ∷ rest) = subst (Chain xs) is h.chained in
         let all : (j : ℕ) → uses j (inorder t) + (one j u.at + uses j rest) ≡ uses j (inorder t ++ us) = λ j. sym (ap (λ (q : List (Item K V)). uses j (inorder t ++ q)) is ∙ uses_append j (inorder t) (u ∷ rest)) in
-        let in-range : u.at < length xs = nth_within xs u.at _ chained.1 in
+        let in-range : u.at < length xs = slice_get_within xs u.at _ chained.1 in
         let unused : uses u.at (inorder t) ≡ 0 = omega (arith, all u.at, h.shared u.at (omega (arith, h.size)), one_at u.at) in
         let count : length us ≡ length rest + 1 = ap length is ∙ (let e : length (u ∷ rest) ≡ length rest + 1 = omega arith in e) in
         record {
@@ -146,7 +145,7 @@ module _ {K V : Type 0} where
         used_within xs [] c j m = absurd (omega (arith, m))
         used_within xs (v ∷ vs) c j m =
             ⊎_elim
-            (λ e. rw e (nth_within xs v.at _ c.1))
+            (λ e. rw e (slice_get_within xs v.at _ c.1))
             (λ ne. used_within xs vs c.2 j (omega (arith, one_off j v.at ne)))
             (cases_eq j v.at)
 
@@ -216,7 +215,7 @@ module _ {K V : Type 0} where
           idle_low [] c j m = absurd (omega (arith, m))
           idle_low (v ∷ vs) c j m =
               ⊎_elim
-              (λ e. rw e (subst (λ (q : ℕ). v.at < q) h.size (nth_within xs v.at _ c.1)))
+              (λ e. rw e (subst (λ (q : ℕ). v.at < q) h.size (slice_get_within xs v.at _ c.1)))
               (λ ne. idle_low vs c.2 j (omega (arith, one_off j v.at ne)))
               (cases_eq j v.at)
 

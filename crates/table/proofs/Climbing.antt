@@ -3,12 +3,13 @@ use Rattle.std.proofs.Common.{◌≡◌, ℕ, ◌+◌, ◌<◌, ◌≤◌, max, 
 use Rattle.std.specs.List.{slice_get}
 use Rattle.std.proofs.lemmas.Bool.{cases_lt}
 use Rattle.std.proofs.lemmas.List.{same_from_push}
+use Rattle.std.proofs.lemmas.Option.{slice_get_within}
 use Rattle.table.specs.declared.node.Node.{Node}
 use Rattle.table.specs.declared.tree.path.Step.{Step}
 use Rattle.table.specs.Tree.{Item, Tree, ptr, tall, inorder, one, uses, Near}
 use Rattle.table.specs.Edit.{item, Once, Uneven, Balanced, node_on, child_on, RoomOn}
 use Rattle.table.specs.Path.{Frame, on, front, back, top, Along, steps, Climb, Climbed, Progress}
-use Rattle.table.proofs.Model.{nth_within, uses_append, uses_node, one_at, rep_frame, same_some}
+use Rattle.table.proofs.Model.{uses_append, uses_node, one_at, rep_frame, same_some}
 use Rattle.table.proofs.Turn.{placed, row_is, uses_row}
 
 -- h is the height that the side had, t the one that it has, o the other side's, and m that of the two joined
@@ -59,7 +60,7 @@ module _ {K V : Type 0} where
     -- the nodes of the way are in the slice
     pub step_within : (fs : List (Frame K V)) → Along xs fs → path ++ step ∷ [] ≡ steps fs → step.at < length xs
     step_within [] h e = absurd (no_step e)
-    step_within (on s x o ∷ fs) h e = rw (ap (λ (q : Step). q.at) (same_from_push path (steps fs) step _ e).1) (nth_within xs x.at _ h.1.1)
+    step_within (on s x o ∷ fs) h e = rw (ap (λ (q : Step). q.at) (same_from_push path (steps fs) step _ e).1) (slice_get_within xs x.at _ h.1.1)
 
     pop : (fs : List (Frame K V)) (n : Node K V) → Along xs fs → path ++ step ∷ [] ≡ steps fs → slice_get xs step.at ≡ Some n → Pop fs path step n
     pop [] n h e read = absurd (no_step e)
@@ -81,7 +82,7 @@ module _ {K V : Type 0} where
         (record {
           on_near = cl.stands;
           on_far = record { held = cl.along.2; root = e };
-          within = nth_within xs x.at _ cl.along.1.1;
+          within = slice_get_within xs x.at _ cl.along.1.1;
           linkable = cl.along.0;
           once = λ j. omega (arith, cl.once j, climb_uses j);
           low_near = omega (arith, cl.near, cl.low, top_le fs (max h (tall o) + 1));

@@ -1,5 +1,5 @@
 -- A rule of a list of numbers, shown at all of its entries by one test that is computed over the whole list.
-use Rattle.std.proofs.Common.{◌≡◌, ℕ, zero, suc, ◌+◌, ◌<◌, Bool, true, false, ◌&&◌, eqb, List, [], ◌∷◌, length, get_or, sym, refl, ◌∙◌, subst, add-zero, zero-add, arith}
+use Rattle.std.proofs.Common.{rules, ◌≡◌, ℕ, zero, suc, ◌+◌, ◌<◌, Bool, true, ◌&&◌, eqb, List, [], ◌∷◌, length, get_or, sym, refl, ◌∙◌, subst, add-zero, zero-add, arith}
 use Rattle.std.proofs.lemmas.Bool.{eqb-true}
 
 -- each entry is what f gives at its place, counted from i
@@ -8,13 +8,10 @@ all_by f i [] = true
 all_by f i (x ∷ xs) = eqb x (f i) && all_by f (suc i) xs
 
 and_left : (p q : Bool) → (p && q) ≡ true → p ≡ true
-and_left true q e = refl
-and_left false q e = e
+and_left p q e = grind rules
 
 and_right : (p q : Bool) → (p && q) ≡ true → q ≡ true
-and_right true q e = e
-and_right false true e = refl
-and_right false false e = e
+and_right p q e = grind rules
 
 by_from : (f : ℕ → ℕ) (xs : List ℕ) (i : ℕ) → all_by f i xs ≡ true → (k : ℕ) → k < length xs → get_or xs k 0 ≡ f (i + k)
 by_from f [] i t k h = absurd (omega arith)

@@ -3,14 +3,10 @@ use Rattle.std.proofs.Common.{◌≡◌, ℕ, zero, suc, ◌+◌, ◌<◌, ◌�
 use Rattle.std.specs.List.{slice_get}
 use Rattle.std.proofs.lemmas.List.{length-set}
 use Rattle.std.proofs.lemmas.Bool.Decides.{nat_tests}
+use Rattle.std.proofs.lemmas.Option.{slice_get_within}
 use Rattle.table.specs.declared.node.Node.{Node}
 use Rattle.table.specs.Tree.{Item, Tree, leaf, node, none, tall, inorder, one, uses, cell, Rep, Stands}
 use Rattle.table.specs.Edit.{item, Room, Joined}
-
-pub nth_within : {X : Type 0} (xs : List X) (i : ℕ) (x : X) → slice_get xs i ≡ Some x → i < length xs
-nth_within [] i x e = let z : ◌≡◌ {A = ℕ} 0 1 = cc in omega arith
-nth_within (y ∷ xs) zero x e = omega arith
-nth_within (y ∷ xs) (suc i) x e = omega (arith, nth_within xs i x e)
 
 pub nth_some : {X : Type 0} (xs : List X) (i : ℕ) → i < length xs → (x : X) × (slice_get xs i ≡ Some x)
 nth_some [] i h = absurd (omega arith)
@@ -83,7 +79,7 @@ module _ {K V : Type 0} where
   -- a link that is not the empty one is within the slice
   pub link_within : (xs : List (Node K V)) (link : ℕ) (t : Tree K V) → Stands xs link t → link ≢ none → link < length xs
   link_within xs link leaf s ne = absurd (ne s.root)
-  link_within xs link (node x l r) s ne = rw s.root (nth_within xs x.at (cell x l r) s.held.1)
+  link_within xs link (node x l r) s ne = rw s.root (slice_get_within xs x.at (cell x l r) s.held.1)
 
   -- the record at such a link
   pub link_node : (xs : List (Node K V)) (link : ℕ) (t : Tree K V) → Stands xs link t → link ≢ none → (n : Node K V) × (slice_get xs link ≡ Some n)
@@ -116,7 +112,3 @@ module _ {K V : Type 0} where
         };
         kept = record { long = length-set xs x.at n; same = same };
       }
-
-  pub link_low : (xs : List (Node K V)) (link : ℕ) (t : Tree K V) → Stands xs link t → link ≤ none
-  link_low xs link leaf s = omega (arith, s.root)
-  link_low xs link (node x l r) s = omega (arith, s.root, s.held.0)

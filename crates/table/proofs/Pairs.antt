@@ -1,5 +1,5 @@
 -- What the definitions on sorted lists of pairs give where a list is cut at a key.
-use Rattle.std.proofs.Common.{◌≡◌, Bool, true, false, not, ◌&&◌, ◌||◌, List, [], ◌∷◌, ◌++◌, map, Some, None, Option, cond, sym, refl, ap, ◌∙◌}
+use Rattle.std.proofs.Common.{rules, ◌≡◌, Bool, true, false, not, ◌&&◌, ◌||◌, List, [], ◌∷◌, ◌++◌, map, Some, None, Option, cond, sym, refl, ap, ◌∙◌}
 use Rattle.std.proofs.lemmas.Bool.{cond-true, cond-false, both_ways}
 use Rattle.table.specs.declared.node.Entry.{Entry}
 use Rattle.table.specs.Order.{Order}
@@ -10,29 +10,19 @@ use Rattle.table.specs.Sound.{entry}
 use Rattle.table.proofs.Descending.{each_map}
 
 off_left : (p q : Bool) → p ≡ true → (not p && not q) ≡ false
-off_left true q e = refl
-off_left false true e = refl
-off_left false false e = sym e
+off_left p q e = grind rules
 
 off_right : (p q : Bool) → q ≡ true → (not p && not q) ≡ false
-off_right true q e = refl
-off_right false true e = refl
-off_right false false e = sym e
+off_right p q e = grind rules
 
 on_both : (p q : Bool) → p ≡ false → q ≡ false → (not p && not q) ≡ true
-on_both false false e f = refl
-on_both true q e f = sym e
-on_both false true e f = sym f
+on_both p q e f = grind rules
 
 or_off : (p q : Bool) → p ≡ false → (p || q) ≡ q
-or_off false q e = refl
-or_off true true e = refl
-or_off true false e = e
+or_off p q e = grind rules
 
 or_on : (p q : Bool) → p ≡ true → (p || q) ≡ true
-or_on true q e = refl
-or_on false true e = refl
-or_on false false e = e
+or_on p q e = grind rules
 
 -- of two keys at most one comes before the other
 pub one_way : {K : Type 0} (before : K → K → Bool) → Order before → (a b : K) → before a b ≡ true → before b a ≡ false

@@ -1,6 +1,7 @@
 -- Nodes that are taken out.
 use Rattle.std.proofs.Common.{◌≡◌, ℕ, ◌+◌, ◌<◌, ◌≤◌, max, Bool, true, false, ◌≢◌, List, [], ◌∷◌, ◌++◌, length, Some, sym, refl, ap, ◌∙◌, subst, append_assoc, append-nil, arith}
 use Rattle.std.specs.List.{slice_get}
+use Rattle.std.proofs.lemmas.Option.{slice_get_within}
 use Rattle.table.specs.declared.node.Node.{Node}
 use Rattle.table.specs.declared.tree.path.Step.{Step}
 use Rattle.table.specs.Tree.{Item, Tree, leaf, node, none, tall, inorder, one, uses, Avl, Stands}
@@ -9,7 +10,7 @@ use Rattle.table.specs.Path.{Frame, front, back, top, Climb, Climbed}
 use Rattle.table.specs.Search.{Sorted, Whole, Became, Way, Walk, Descent, Under, Over}
 use Rattle.table.specs.Change.{Absent, Present}
 use Rattle.table.specs.Remove.{Stem, Leftward, MinTaken, Lifted}
-use Rattle.table.proofs.Model.{nth_within, uses_append, uses_node, one_at, rep_frame, same_some, opened}
+use Rattle.table.proofs.Model.{uses_append, uses_node, one_at, rep_frame, same_some, opened}
 use Rattle.table.proofs.Climbing.{along_frame, top_le, level_near}
 use Rattle.table.proofs.Descending.{each_append, each_map, cut, way_on, way_starts}
 use Rattle.table.proofs.Lists.{sorted_less}
@@ -124,7 +125,7 @@ module _ {K V : Type 0} where
               record {
                 on_left = record { held = rep_frame xs ys l (λ j u. k.same j (omega (arith, stem.once j, all j))) on_left.held; root = on_left.root };
                 on_right = k.stands;
-                within = nth_within ys at m e;
+                within = slice_get_within ys at m e;
                 linkable = k.linkable;
                 once = λ j. omega (arith, stem.once j, all j, ap (uses j) (swap ys at rest m k e), uses_node j (item at m.key m.value) (inorder l) (inorder k.tree));
                 low_left = omega (arith, stem.low);

@@ -2,10 +2,11 @@
 use Rattle.std.proofs.Common.{◌≡◌, ℕ, ◌+◌, ◌<◌, ◌≤◌, max, Bool, true, false, not, ◌≢◌, List, ◌∷◌, ◌++◌, length, Some, sym, refl, ap, ◌∙◌, subst, append_assoc, arith}
 use Rattle.std.specs.List.{slice_get}
 use Rattle.std.proofs.lemmas.Bool.{both_ways}
+use Rattle.std.proofs.lemmas.Option.{slice_get_within}
 use Rattle.table.specs.declared.node.Node.{Node}
 use Rattle.table.specs.Tree.{Item, Tree, none, tall, inorder, one, uses, Near, Avl, Stands}
 use Rattle.table.specs.Edit.{item, Room, Changed, Joined, Mended, Heavy, node_on, row_on, child_on, RoomOn, JoinedOn}
-use Rattle.table.proofs.Model.{nth_within, uses_node, one_at, rep_frame, opened, link_within, empty_tall}
+use Rattle.table.proofs.Model.{uses_node, one_at, rep_frame, opened, link_within, empty_tall}
 
 -- what a test of two read heights says of the trees
 pub no_taller : (a b x y : ℕ) → a ≡ x → b ≡ y → a ≤ b → x ≤ y
@@ -34,12 +35,6 @@ module _ {K V : Type 0} where
   off_item j a x b off e =
       let here : one j x.at ≡ 1 = rw e (one_at x.at) in
       omega (arith, uses_node j x a b)
-
-  pub off_front : (j : ℕ) (a : List (Item K V)) (x : Item K V) (b : List (Item K V)) → uses j (a ++ x ∷ b) ≡ 0 → uses j a ≡ 0
-  off_front j a x b off = omega (arith, uses_node j x a b)
-
-  pub off_back : (j : ℕ) (a : List (Item K V)) (x : Item K V) (b : List (Item K V)) → uses j (a ++ x ∷ b) ≡ 0 → uses j b ≡ 0
-  off_back j a x b off = omega (arith, uses_node j x a b)
 
   -- what both sides have in common: the two trees, and a place over them that neither uses
   pub record Pieces (xs : List (Node K V)) (x : Item K V) (near far : ℕ) (n f : Tree K V) : Type 0 where
@@ -139,8 +134,8 @@ module _ {K V : Type 0} where
     pub within : link < length xs
 
   pub opened_on : (s : Bool) (xs : List (Node K V)) (link : ℕ) (n : Node K V) (t : Tree K V) → Stands xs link t → link ≢ none → slice_get xs link ≡ Some n → OpenedOn s xs link n t
-  opened_on true xs link n t st ne e = let o = opened xs link n t st ne e in record { near = o.l; far = o.r; is = o.is; on_near = o.on_left; on_far = o.on_right; linkable = o.linkable; within = nth_within xs link n e }
-  opened_on false xs link n t st ne e = let o = opened xs link n t st ne e in record { near = o.r; far = o.l; is = o.is; on_near = o.on_right; on_far = o.on_left; linkable = o.linkable; within = nth_within xs link n e }
+  opened_on true xs link n t st ne e = let o = opened xs link n t st ne e in record { near = o.l; far = o.r; is = o.is; on_near = o.on_left; on_far = o.on_right; linkable = o.linkable; within = slice_get_within xs link n e }
+  opened_on false xs link n t st ne e = let o = opened xs link n t st ne e in record { near = o.r; far = o.l; is = o.is; on_near = o.on_right; on_far = o.on_left; linkable = o.linkable; within = slice_get_within xs link n e }
 
   pub heavy_link : (s : Bool) (xs : List (Node K V)) (x : Item K V) (heavy light : ℕ) (h l : Tree K V) → RoomOn s xs x heavy light h l → Heavy h l → heavy ≢ none
   heavy_link s xs x heavy light h l room big e = omega (arith, big.gap, empty_tall xs heavy h (pieces s xs x heavy light h l room).on_near e)
@@ -280,7 +275,7 @@ module _ {K V : Type 0} where
         let once : (j : ℕ) → uses j (inorder o) + one j y.at + uses j (inorder i) + one j x.at + uses j (inorder l) ≤ 1 = λ j. omega (arith, p.once j, ap (λ (t : Tree K V). uses j (inorder t)) is, uses_on s j y o i) in
         let gap : max (tall o) (tall i) + 1 ≡ tall l + 2 = sym high ∙ big.gap in
         let low : max (tall o) (tall i) + 1 ≤ 100 = omega (arith, p.low_near) in
-        let y-within : heavy < length xs = nth_within xs heavy n read in
+        let y-within : heavy < length xs = slice_get_within xs heavy n read in
         let back : (zs : List (Node K V)) (u : ℕ) (t : Tree K V) → h ≡ t → Mended xs zs u (row_on s (inorder t) x (inorder l)) (tall t) → Mended xs zs u (row_on s (inorder h) x (inorder l)) (tall h) = λ zs u t e m. subst (λ (q : Tree K V). Mended xs zs u (row_on s (inorder q) x (inorder l)) (tall q)) (sym e) m in
         record {
           o = o;

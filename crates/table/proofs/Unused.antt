@@ -3,13 +3,14 @@ use Rattle.std.proofs.Common.{◌≡◌, ℕ, ◌+◌, ◌<◌, ◌≤◌, List,
 use Rattle.std.specs.List.{slice_get}
 use Rattle.std.proofs.lemmas.List.{length-set}
 use Rattle.std.proofs.lemmas.Bool.{cases_eq}
+use Rattle.std.proofs.lemmas.Option.{slice_get_within}
 use Rattle.table.specs.declared.node.Node.{Node}
 use Rattle.table.specs.Pairs.{Each}
 use Rattle.table.specs.Tree.{Item, none, one, uses}
 use Rattle.table.specs.Edit.{item}
 use Rattle.table.specs.Parts.{front_at}
 use Rattle.table.specs.Sound.{spare, Chain}
-use Rattle.table.proofs.Model.{nth_within, nth_set_same, nth_set_other, one_at, one_off}
+use Rattle.table.proofs.Model.{nth_set_same, nth_set_other, one_at, one_off}
 
 module _ {K V : Type 0} where
   pub chain_frame : (xs ys : List (Node K V)) (us : List (Item K V)) → ((j : ℕ) → 1 ≤ uses j us → slice_get ys j ≡ slice_get xs j) → Chain xs us → Chain ys us
@@ -19,14 +20,14 @@ module _ {K V : Type 0} where
   -- the places of a chain are within the records
   pub chain_held : (xs : List (Node K V)) (us : List (Item K V)) → Chain xs us → Each (λ (x : Item K V). x.at < length xs) us
   chain_held xs [] h = tt
-  chain_held xs (x ∷ us) h = (nth_within xs x.at _ h.1, chain_held xs us h.2)
+  chain_held xs (x ∷ us) h = (slice_get_within xs x.at _ h.1, chain_held xs us h.2)
 
   module _ (xs : List (Node K V)) (at next : ℕ) (n : Node K V) (us : List (Item K V)) (read : slice_get xs at ≡ Some n) (linkable : at < none) (off : uses at us ≡ 0) (begins : next ≡ front_at us) (chained : Chain xs us) where
     pub chain_more : Chain (set xs at (spare n.key n.value next)) (item at n.key n.value ∷ us)
     chain_more =
         let m : Node K V = spare n.key n.value next in (
           linkable,
-          nth_set_same xs at m (nth_within xs at n read) ∙ ap (λ (l : ℕ). Some (spare n.key n.value l)) begins,
+          nth_set_same xs at m (slice_get_within xs at n read) ∙ ap (λ (l : ℕ). Some (spare n.key n.value l)) begins,
           chain_frame xs (set xs at m) us (λ j u. nth_set_other xs at j m (λ e. omega (arith, ap (λ (i : ℕ). uses i us) e))) chained,
         )
 

@@ -3,9 +3,6 @@ use Rattle.std.proofs.Common.{◌∙◌}
 use Rattle.table.proofs.Calls.{lowest_is, highest_is}
 use Rattle.table.proofs.table.Table.beside.Goals as goal
 
-pub around-sides-requires : goal.around-sides-requires
-around-sides-requires g c = (_, c.args.self.now.sound.whole)
-
 pub returns : goal.returns
 returns g c =
     let s = c.args.self.now.sound in

@@ -3,9 +3,6 @@ use Rattle.std.proofs.Common.{◌∙◌}
 use Rattle.table.proofs.Calls.{highest_is}
 use Rattle.table.proofs.table.Table.highest_before.Goals as goal
 
-pub around-requires : goal.around-requires
-around-requires g c = (_, c.args.self.now.sound.whole)
-
 pub returns : goal.returns
 returns g c =
     let s = c.args.self.now.sound in

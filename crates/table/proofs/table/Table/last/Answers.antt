@@ -4,9 +4,6 @@ use Rattle.table.specs.Sound.{entry_at}
 use Rattle.table.proofs.Calls.{last_is}
 use Rattle.table.proofs.table.Table.last.Goals as goal
 
-pub right_end-requires : goal.right_end-requires
-right_end-requires g c = (_, c.args.self.now.sound.whole)
-
 pub returns : goal.returns
 returns g c =
     let s = c.args.self.now.sound in

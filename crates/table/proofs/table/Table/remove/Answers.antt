@@ -2,17 +2,8 @@
 use Rattle.std.proofs.Common.{map, ap, ◌∙◌}
 use Rattle.table.specs.Sound.{entry}
 use Rattle.table.proofs.Soundness.{sound, entries_are}
-use Rattle.table.proofs.Calls.{missing, taken_within, some_taken, given_back, taken_out}
+use Rattle.table.proofs.Calls.{missing, taken_within, given_back, taken_out}
 use Rattle.table.proofs.table.Table.remove.Goals as goal
-
-pub remove-requires-clause-tree : goal.remove-requires-clause-tree
-remove-requires-clause-tree g c = (_, c.args.self.now.sound.whole)
-
-pub invariant_of-self : goal.invariant_of-self
-invariant_of-self g c =
-    let s = c.args.self.now.sound in
-    let e = c.in_err-taken.ensures _ s.whole in
-    record { sound = rw e.1 s }
 
 pub returns-in_err-taken : goal.returns-in_err-taken
 returns-in_err-taken g c =
@@ -31,12 +22,6 @@ give_back-requires g c =
     let s = c.args.self.now.sound in
     let e = c.in_ok-taken.ensures _ s.whole in
     taken_within s g.met.K.Key.ordered _ _ e.0 _ _ e.1
-
-pub overflow_sub-self : goal.overflow_sub-self
-overflow_sub-self g c =
-    let s = c.args.self.now.sound in
-    let e = c.in_ok-taken.ensures _ s.whole in
-    some_taken s g.met.K.Key.ordered _ _ e.0 _ _ e.1
 
 pub invariant_of-self-2 : goal.invariant_of-self-2
 invariant_of-self-2 g c =

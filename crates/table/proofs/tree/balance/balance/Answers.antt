@@ -1,35 +1,13 @@
 -- `balance` turns the node where one side is two taller, and else joins the sides as they are.
-use Rattle.std.proofs.Common.{arith}
 use Rattle.table.proofs.Turn.{pieces, room_swap, two_taller, one_taller}
 use Rattle.table.proofs.Level.{near_heavy, far_heavy, from_near, from_far, from_join}
 use Rattle.table.proofs.tree.balance.balance.Goals as goal
-
-pub height-on_near-requires : goal.height-on_near-requires
-height-on_near-requires g c = (c.requires.0, (pieces _ _ _ _ _ _ _ c.requires.2).on_near)
-
-pub height-on_far-requires : goal.height-on_far-requires
-height-on_far-requires g c = (c.requires.1, (pieces _ _ _ _ _ _ _ c.requires.2).on_far)
-
-pub overflow_add-on_far : goal.overflow_add-on_far
-overflow_add-on_far g c = let k = pieces _ _ _ _ _ _ _ c.requires.2 in omega (arith, c.height-on_far.ensures c.requires.1 k.on_far, k.low_far)
-
-pub overflow_add-on_near : goal.overflow_add-on_near
-overflow_add-on_near g c = let k = pieces _ _ _ _ _ _ _ c.requires.2 in omega (arith, c.height-on_near.ensures c.requires.0 k.on_near, k.low_near)
-
-pub turn-requires : goal.turn-requires
-turn-requires g c =
-    let p = c.requires in
-    let k = pieces _ _ _ _ _ _ _ p.2 in
-    (p.0, p.1, p.2, near_heavy p.0 p.1 p.3 (two_taller _ _ _ _ (c.height-on_near.ensures p.0 k.on_near) (c.height-on_far.ensures p.1 k.on_far) c.if-on_near-on_far.true))
 
 pub turn-requires-then-on_far-on_near : goal.turn-requires-then-on_far-on_near
 turn-requires-then-on_far-on_near g c =
     let p = c.requires in
     let k = pieces _ _ _ _ _ _ _ p.2 in
     (p.1, p.0, room_swap _ _ _ _ _ _ _ p.2, far_heavy p.0 p.1 p.3 (two_taller _ _ _ _ (c.height-on_far.ensures p.1 k.on_far) (c.height-on_near.ensures p.0 k.on_near) c.if-on_far-on_near.true))
-
-pub join_on-requires : goal.join_on-requires
-join_on-requires g c = (c.requires.0, c.requires.1, c.requires.2)
 
 pub returns-then-on_near-on_far : goal.returns-then-on_near-on_far
 returns-then-on_near-on_far g c = λ n f room u.

@@ -1,10 +1,7 @@
 -- `lift` puts the first node of the right side over both sides, or answers the left side where there is no right one.
-use Rattle.table.proofs.Model.{nth_within, link_within}
+use Rattle.std.proofs.lemmas.Option.{slice_get_within}
 use Rattle.table.proofs.Removing.{lift_leaf, lift_ready}
 use Rattle.table.proofs.tree.edit.lift.Goals as goal
-
-pub read-n-requires : goal.read-n-requires
-read-n-requires g c = link_within _ _ c.requires.0 c.requires.1.stands c.requires.1.some
 
 pub take_min-min-requires : goal.take_min-min-requires
 take_min-min-requires g c =
@@ -15,7 +12,7 @@ pub read-requires : goal.read-requires
 read-requires g c =
     let k = lift_ready _ _ c.requires.0 _ c.requires.1 c.read-n.ensures c.if-right.false in
     let m = c.take_min-min.ensures k.1 k.2.stem_right in
-    nth_within _ _ _ m.held
+    slice_get_within _ _ _ m.held
 
 pub balance-requires : goal.balance-requires
 balance-requires g c =

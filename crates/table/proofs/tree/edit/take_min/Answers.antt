@@ -1,13 +1,6 @@
 -- `take_min` puts the right side of the first node in its place, and the way back up balances the tree.
-use Rattle.table.proofs.Model.{link_within}
 use Rattle.table.proofs.Removing.{min_ready}
 use Rattle.table.proofs.tree.edit.take_min.Goals as goal
-
-pub read-requires : goal.read-requires
-read-requires g c =
-    let p = c.requires in
-    let e = c.left_end-end.ensures p.0 p.1 in
-    link_within _ _ e.0.sub e.0.way.stands e.0.some
 
 pub climb-rest-requires : goal.climb-rest-requires
 climb-rest-requires g c =
