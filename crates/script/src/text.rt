@@ -10,7 +10,8 @@ use std::alloc::AllocError;
 // The most bytes of a reply: the words of the figures, four numbers and the line feed.
 const LONGEST_REPLY: usize = 111;
 
-// Adds bytes, for which there is room.
+// Adds bytes, for which there is room. That what was reserved stays is owed by each of these functions: it ties two moments of a
+// lent vector, which an invariant cannot.
 fn put(out: &mut Vec<u8>, bytes: &[u8])
     requires { vec_len out.old + length bytes.now ≤ vec_capacity out.old }
     ensures items { out.new.items ≡ out.old.items ++ bytes.now }

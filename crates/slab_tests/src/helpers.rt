@@ -86,7 +86,7 @@ pub(crate) fn next_is<S: LogStore>(
     Ok(())
 }
 
-// An own store with these words.
+// An own store with these words. No crate of tests can use another's, so two have this.
 pub(crate) fn store_of(words: &[u64]) -> Result<OwnStore, Refusal> {
     let mut store = OwnStore::new();
     for word in words {

@@ -29,7 +29,7 @@ impl Space {
         self.by_start.len()
     }
 
-    // The length of the longest free extent, 0 if there is none.
+    // The length of the longest free extent, 0 if there is none. A match: with `map_or` the search for a proof finds none.
     pub fn longest(&self) -> u64
         ensures { Longest (free_in self.now) result }
     {

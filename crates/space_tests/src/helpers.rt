@@ -12,7 +12,7 @@ pub(crate) fn figures(rt: &impl Abort, space: &Space, sectors: u64, extents: usi
     assert_eq!(rt; space.longest(), longest);
 }
 
-// An own store with these words.
+// An own store with these words. No crate of tests can use another's, so two have this.
 pub(crate) fn store_of(words: &[u64]) -> Result<OwnStore, Refusal> {
     let mut store = OwnStore::new();
     for word in words {

@@ -12,7 +12,7 @@ const WORDS: usize = 10_000;
 // A header of 16 bytes, and 8 for each word.
 const BYTES: usize = 80_016;
 
-// The next number of the sequence.
+// The next number of the sequence. No crate of tests can use another's, so two have such a one.
 fn step(seed: u64) -> u64 {
     seed.wrapping_mul(6_364_136_223_846_793_005)
         .wrapping_add(1_442_695_040_888_963_407)

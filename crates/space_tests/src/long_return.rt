@@ -14,6 +14,7 @@ struct Slab {
     log: OwnStore,
 }
 
+// The two changes, each with its entries: one function over the effect would choose between the calls.
 fn grant(slab: &mut Slab, start: u64, length: u64) -> Result<(), Fail> {
     let extent = Extent::new(start, length)?;
     slab.space.grant(extent)?;

@@ -9,6 +9,7 @@ use crate::bytes::{get, put};
 use crate::header_rule::{COUNT_AT, WORD_BYTES, check};
 use slab_log::Refusal;
 
+// Two figures by one line each: a function over the field would be longer than both.
 pub(crate) fn count_of(area: &[u8]) -> usize
     ensures { result ≡ length (words_of area.now) }
 {

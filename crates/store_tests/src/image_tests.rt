@@ -20,6 +20,7 @@ fn fill_and_read<S: LogStore>(rt: &impl Abort, store: &mut S) -> Result<(), Fail
     }
     assert_eq!(rt; store.count(), WORDS);
     assert_eq!(rt; refusal_number(store.add(1)), 9);
+    // By index, since `word` is tested.
     for i in 0..WORDS {
         assert_eq!(rt; store.word(i)?, sample(i));
     }

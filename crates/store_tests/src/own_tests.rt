@@ -20,6 +20,7 @@ fn a_full_store_takes_no_word(rt: HostRuntime) -> Result<(), Fail> {
     assert_eq!(rt; store.count(), PLACES);
     assert_eq!(rt; refusal_number(store.add(7)), 9);
     assert_eq!(rt; store.count(), PLACES);
+    // By index, since `word` is tested.
     for i in 0..PLACES {
         assert_eq!(rt; store.word(i)?, i as u64 * 3);
     }

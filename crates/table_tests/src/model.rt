@@ -5,7 +5,7 @@ use table::{Entry, LengthKey};
 
 pub const STARTS: usize = 2048;
 
-// The next of a row of pseudo-random numbers.
+// The next of a row of pseudo-random numbers. No crate of tests can use another's, so two have such a one.
 pub(crate) fn next(seed: u64) -> u64 {
     seed.wrapping_mul(6364136223846793005)
         .wrapping_add(1442695040888963407)

@@ -1,4 +1,4 @@
-// Nodes put into a tree, and taken out of it.
+// Nodes put into a tree, and taken out of it. The records are a lent slice, of which no type says that it has at most 1,024.
 ghost use Rattle.std.specs.Prelude.{◌≤◌, length};
 ghost use Rattle.table.specs.Tree.{Tree};
 ghost use Rattle.table.specs.Search.{Whole, Free};

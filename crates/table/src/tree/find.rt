@@ -1,4 +1,4 @@
-// Searches that change nothing.
+// Searches that change nothing. They are loops over links: which node comes next is known only at the one before.
 ghost use Rattle.std.specs.Prelude.{◌≡◌};
 ghost use Rattle.table.specs.Tree.{Tree, inorder};
 ghost use Rattle.table.specs.Search.{Whole};
