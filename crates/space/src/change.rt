@@ -15,7 +15,8 @@ use table::Entry;
 const MOST_EXTENTS: usize = 1024;
 
 impl Space {
-    // Grants an extent of free sectors: any part of a free extent. This and the next are one line each, and only their contracts matter.
+    // Grants an extent of free sectors: any part of a free extent. This and the next are one line each: a function over the
+    // call would be longer than both.
     pub fn grant(&mut self, extent: Extent) -> Result<(), Fault>
         ensures { Changes self.old (granting (sectors_of self.old) (free_in self.old) extent.start extent.length) self.new result }
     {

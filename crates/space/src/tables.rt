@@ -36,8 +36,7 @@ impl Space {
         self.free += len;
     }
 
-    // Puts an extent in, unless it is empty. This and `take_end` turn opposite ways and owe opposite facts; one function over a
-    // closure would be no plainer.
+    // Puts an extent in, unless it is empty. This and `take_end` owe opposite facts: one function over a closure would need both.
     pub(crate) fn put_end(&mut self, start: u64, len: u64)
         requires within { start + len ≤ sectors_of self.old }
         requires clear { 1 ≤ len → Clear (free_in self.old) start len }

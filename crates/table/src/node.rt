@@ -2,7 +2,7 @@
 ghost use Rattle.std.specs.Prelude.{◌≡◌};
 ghost use Rattle.table.specs.Edit.{item, child_on};
 
-// The link to no record. A rule of the project needs it in place of an `Option<u16>`: memory is fixed, and a record small.
+// The link to no record. A number and no `Option<u16>`, which takes twice as much: memory is fixed, and a record takes 24 bytes.
 pub(crate) const NONE: u16 = 65535;
 
 // How many records a table has.

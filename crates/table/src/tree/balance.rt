@@ -1,5 +1,5 @@
-// Nodes over two trees: joined as they are, or turned where one is two taller. The side is a flag: with closures, or a type for each
-// side, what is said of both would stand twice.
+// Nodes over two trees: joined as they are, or turned where one is two taller. The side is a flag: its negation is
+// the other side, and one proof serves both.
 ghost use Rattle.std.specs.Prelude.{◌≡◌, ◌+◌, ◌<◌, length, Some};
 ghost use Rattle.std.specs.List.{slice_get};
 ghost use Rattle.table.specs.Tree.{Tree, Stands, tall, inorder};

@@ -1,4 +1,5 @@
-// Nodes put into a tree, and taken out of it. The records are a lent slice, of which no type says that it has at most 1,024.
+// Nodes put into a tree, and taken out of it. The records are a lent slice: lent as an
+// array of 1,024 they would owe a bound on their bytes, which no generic key and value shows.
 ghost use Rattle.std.specs.Prelude.{◌≤◌, length};
 ghost use Rattle.table.specs.Tree.{Tree};
 ghost use Rattle.table.specs.Search.{Whole, Free};

@@ -1,4 +1,5 @@
-// Searches that change nothing. They are loops over links: which node comes next is known only at the one before.
+// Searches that change nothing. They are loops over links, of which each is read at the one
+// before, and a link is answered as the records have it.
 ghost use Rattle.std.specs.Prelude.{◌≡◌};
 ghost use Rattle.table.specs.Tree.{Tree, inorder};
 ghost use Rattle.table.specs.Search.{Whole};

@@ -1,5 +1,5 @@
-// Ways through a tree: down from the root, noted step by step, and back up. The ways down are loops over links: which node comes
-// next is known only at the one before.
+// Ways through a tree: down from the root, noted step by step, and back up. The ways down are loops over links, of
+// which each is read at the one before.
 ghost use Rattle.std.specs.Prelude.{◌≡◌, ℕ, ◌≤◌, List, ◌++◌};
 ghost use Rattle.table.specs.Tree.{Tree, tall, inorder};
 ghost use Rattle.table.specs.Path.{Frame, Climb, Climbed, front, back, top};
