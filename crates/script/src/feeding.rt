@@ -10,6 +10,8 @@ use arrayvec::ArrayVec;
 use std::alloc::AllocError;
 use store::LogStore;
 
+// A clause holds for each line of which the feed keeps these bytes: what is behind the 65th is not there, so no model of a feed gives
+// the line.
 impl Feed {
     // No byte has been read.
     pub fn new() -> Feed

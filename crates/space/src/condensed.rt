@@ -12,6 +12,7 @@ impl Space {
     pub fn condensed_len(&self) -> usize
         ensures { (condensed : List ℕ) → Condensed (sectors_of self.now) (free_in self.now) condensed → result ≡ length condensed }
     {
+        // A loop and no `sum`: each addition owes that it fits, which the invariant says of this place.
         let mut words = 0;
         for extent in self.used_runs() {
             words += extent.entries();

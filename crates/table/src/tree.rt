@@ -1,4 +1,5 @@
-// The tree: a slice of records and the link of its root. No record of another place changes.
+// The tree: a slice of records and the link of its root. No record of another place changes. The two are arguments: a struct that
+// lends them would be two, one for `&` and one for `&mut`, and what is said of a tree would stand at both.
 pub(crate) mod balance;
 pub(crate) mod edit;
 pub(crate) mod find;
