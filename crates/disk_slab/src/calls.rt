@@ -55,10 +55,8 @@ impl<S: LogStore> Live<S> {
         match &self.space {
             Ok(space) => figures_of(space, words),
             Err(_) => Figures {
-                free: 0,
-                extents: 0,
-                longest: 0,
                 words,
+                ..Figures::default()
             },
         }
     }

@@ -1,7 +1,7 @@
 // What a slab tells of itself.
 
 // The figures of a live slab.
-#[derive(Clone, Copy, PartialEq, Eq, Debug)]
+#[derive(Clone, Copy, PartialEq, Eq, Debug, Default)]
 pub struct Figures {
     // How many sectors are free.
     pub free: u64,
@@ -14,7 +14,7 @@ pub struct Figures {
 }
 
 // How many words of a log there are of each kind.
-#[derive(Clone, Copy, PartialEq, Eq, Debug)]
+#[derive(Clone, Copy, PartialEq, Eq, Debug, Default)]
 pub struct Tally {
     pub allocating: usize,
     pub freeing: usize,

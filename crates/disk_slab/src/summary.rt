@@ -26,11 +26,7 @@ pub(crate) fn figures_of(space: &Space, words: usize) -> Figures
 pub(crate) fn tally_of<S: LogStore>(store: &S) -> Tally
     ensures { Tallies (S.LogStore.words store.now) result }
 {
-    let mut tally = Tally {
-        allocating: 0,
-        freeing: 0,
-        debug: 0,
-    };
+    let mut tally = Tally::default();
     for word in Words::of(store) {
         count_word(&mut tally, word);
     }

@@ -5,7 +5,7 @@ ghost use Rattle.space.specs.Free.{sectors_of, free_in, WritesCondensed};
 
 use crate::space::Space;
 use slab_log::{Effect, Refusal};
-use store::{LogStore, add_extent};
+use store::{LogStore, add_extent, room_for};
 
 impl Space {
     // How many words the condensed log has.
@@ -27,10 +27,7 @@ impl Space {
         ensures writes { WritesCondensed self.now (S.capacity out.old) (S.words out.old) (S.words out.new) result }
     {
         let needed = self.condensed_len();
-        let places = out.capacity() - out.count();
-        if places < needed {
-            return Err(Refusal::LogFull { places, needed });
-        }
+        room_for(out, needed)?;
         for extent in self.used_runs() {
             let Ok(()) = add_extent(out, Effect::Allocates, extent) else {
                 unreachable();

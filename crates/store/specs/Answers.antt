@@ -14,6 +14,12 @@ abbrev pub Adds : {U : Type 0} → ℕ → List ℕ → List ℕ → ℕ → Res
 Adds capacity before after w (Ok u) = (length before < capacity) × (after ≡ before ++ w ∷ [])
 Adds capacity before after w (Err e) = (length before ≡ capacity) × (e ≡ StoreFull) × (after ≡ before)
 
+-- the answer to the question whether so many more words have places: they have, or, where there are not so many places left,
+-- the refusal LogFull with the places left and the words needed
+abbrev pub HasRoom : {U : Type 0} → ℕ → List ℕ → ℕ → Result U Refusal → Type 0
+HasRoom capacity words needed (Ok u) = length words + needed ≤ capacity
+HasRoom capacity words needed (Err e) = (capacity < length words + needed) × (e ≡ LogFull (capacity - length words) needed)
+
 -- the answer to a request to add several words: they stand at the end of the list, or, where there are not so many places
 -- left, the refusal LogFull with the places left and the words to be added, and the list as before
 abbrev pub AddsAll : {U : Type 0} → ℕ → List ℕ → List ℕ → List ℕ → Result U Refusal → Type 0

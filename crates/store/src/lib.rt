@@ -9,6 +9,7 @@ mod image;
 mod layout;
 mod log_store;
 mod own;
+mod room;
 mod words;
 
 pub use extents::add_extent;
@@ -17,4 +18,5 @@ pub use header_rule::{HEADER_BYTES, Header, check};
 pub use image::ImageStore;
 pub use log_store::LogStore;
 pub use own::{OwnStore, PLACES};
+pub use room::room_for;
 pub use words::Words;

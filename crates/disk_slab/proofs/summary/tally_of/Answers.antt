@@ -1,10 +1,14 @@
 -- Each word is counted once.
-use Rattle.std.proofs.Common.{length, ap, arith}
+use Rattle.std.proofs.Common.{◌≡◌, length, ap, arith}
 use Rattle.disk_slab.proofs.Counted.{sofar_none, sofar_more, sofar_all}
 use Rattle.disk_slab.proofs.summary.tally_of.Goals as goal
 
 pub loop-word-init : goal.loop-word-init
-loop-word-init g c = sofar_none _ _ (cc (c.of-word-items.ensures))
+loop-word-init g c =
+    let zero = c.default-tally.ensures in
+    let none : c.default-tally.result ≡ record { allocating = 0; freeing = 0; debug = 0 } =
+    λ i. record { allocating = zero.0 i; freeing = zero.1.0 i; debug = zero.1.1 i } in
+    rw (none) (sofar_none _ _ (cc (c.of-word-items.ensures)))
 
 pub count_word-requires : goal.count_word-requires
 count_word-requires g c =

@@ -16,4 +16,5 @@ returns-in-Ok g c =
 pub returns-in-Err : goal.returns-in-Err
 returns-in-Err g c =
     let now = c.args.self.now in
-    rw (seen_stopped g.S.LogStore now.size now.space now.store c.in-Err.field-0 c.in-Err.is, c.count-words.ensures) (stopped refl)
+    let zero = c.default.ensures in
+    rw (seen_stopped g.S.LogStore now.size now.space now.store c.in-Err.field-0 c.in-Err.is, c.count-words.ensures, zero.0, zero.1.0, zero.1.1.0) (stopped refl)

@@ -1,28 +1,26 @@
 -- The places are counted first, so that each run's words find theirs.
 use Rattle.std.proofs.Common.{◌≡◌, [], ◌++◌, Some, None, sym, refl, ap, ◌∙◌, append-nil, arith}
+use Rattle.std.proofs.lemmas.Result.{err_from_is_err_and}
 use Rattle.slab_log.specs.Sectors.{used}
 use Rattle.slab_log.proofs.Unique.{condensed_exists}
 use Rattle.space.specs.Free.{sectors_of, free_in, Follows}
 use Rattle.space.proofs.Walked.{walk_starts, walk_ends, write_fits, write_on}
 use Rattle.space.proofs.space.Space.write_condensed.Goals as goal
 
-pub returns-then-places-needed : goal.returns-then-places-needed
-returns-then-places-needed g c =
+pub returns-in_err-room_for-clause-writes : goal.returns-in_err-room_for-clause-writes
+returns-in_err-room_for-clause-writes g c =
     let now = c.args.self.now in
     let all = condensed_exists (sectors_of now) (free_in now) in
     let same = c.condensed_len-needed.ensures all.0 all.1 in
-    let bounded = g.S.LogStore.bounded c.args.out.now in
-    record {
-      kept = refl;
-      writes = (all.0, all.1, omega (arith, same, c.capacity.ensures, c.count.ensures, c.if-places-needed.true), cc (c.capacity.ensures, c.count.ensures, same), refl);
-    }
+    let p = err_from_is_err_and c.from_residual.result c.from_residual.ensures.1 in
+    let lacks = c.in_err-room_for.ensures in
+    rw (p.1) (all.0, all.1, omega (arith, same, lacks.0), cc (p.2, lacks.1, same), refl)
 
 pub loop-extent-init : goal.loop-extent-init
 loop-extent-init g c =
     let now = c.args.self.now in
     let all = condensed_exists (sectors_of now) (free_in now) in
     let same = c.condensed_len-needed.ensures all.0 all.1 in
-    let bounded = g.S.LogStore.bounded c.args.out.now in
     let first : c.into_iter-extent-iterator.result.at ≡ 0 = cc (c.used_runs-extent-items.ensures.first) in
     record {
       same = cc (c.used_runs-extent-items.ensures.space);
@@ -30,7 +28,7 @@ loop-extent-init g c =
         log = all.0;
         condensed = all.1;
         count = same;
-        fits = omega (arith, same, c.capacity.ensures, c.count.ensures, c.if-places-needed.false);
+        fits = omega (arith, same, c.in_ok-room_for.ensures);
         within = omega arith;
         done = [];
         walked = rw first (walk_starts (sectors_of now) (free_in now) all.0 all.1);
