@@ -5,6 +5,7 @@ ghost use Rattle.slab_log.specs.Words.{read};
 ghost use Rattle.slab_log.specs.Replay.{apply, take_word};
 ghost use Rattle.space.specs.Free.{sectors_of, free_in, Changes, Replays};
 
+use crate::run::SectorRun;
 use crate::space::Space;
 use slab_log::{Entry, Fault, Size, Stop};
 use store::{LogStore, Words};
@@ -34,8 +35,14 @@ impl Space {
         ensures { Changes self.old (apply (sectors_of self.old) (free_in self.old) entry) self.new result }
     {
         match entry {
-            Entry::Allocate(span) => self.grant_run(span.into()),
-            Entry::Free(span) => self.return_run(span.into()),
+            Entry::Allocate(span) => self.grant_run(SectorRun {
+                start: span.offset,
+                len: span.run,
+            }),
+            Entry::Free(span) => self.return_run(SectorRun {
+                start: span.offset,
+                len: span.run,
+            }),
             Entry::Debug(_) => Ok(()),
         }
     }

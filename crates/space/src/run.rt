@@ -1,7 +1,7 @@
 // Sectors one behind the other, which a log or a caller names. They need not lie within the slab.
 ghost use Rattle.std.specs.Prelude.{◌≡◌, ◌+◌, ◌^◌, ◌<◌, ◌≤◌};
 
-use slab_log::{Extent, Span};
+use slab_log::Extent;
 
 // The sectors from `start` to `start + len - 1`: at least one.
 #[derive(Clone, Copy)]
@@ -19,17 +19,6 @@ impl From<Extent> for SectorRun {
         SectorRun {
             start: extent.start,
             len: extent.length,
-        }
-    }
-}
-
-impl From<Span> for SectorRun {
-    ghost from_gives = { λ span run. (run.start ≡ span.offset) × (run.len ≡ span.run) };
-
-    fn from(span: Span) -> SectorRun {
-        SectorRun {
-            start: span.offset,
-            len: span.run,
         }
     }
 }
