@@ -36,9 +36,7 @@ impl Command {
     // The command that the arguments name, the first of which is the program.
     pub(crate) fn from_args(mut args: Args) -> Result<Command, Failure> {
         let _ = args.next();
-        let Some(name) = args.next() else {
-            return Err(Failure::Usage);
-        };
+        let name = args.next().ok_or(Failure::Usage)?;
         let first = args.next();
         let second = args.next();
         if args.next().is_some() {

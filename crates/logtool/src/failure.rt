@@ -6,6 +6,8 @@ use thiserror::Error;
 
 #[derive(Debug, Drop, Error)]
 pub enum Failure {
+    #[error("an argument is no text")]
+    NoText,
     // The words of the command line are none of the commands.
     #[error("wrong arguments; logtool --help shows the commands")]
     Usage,

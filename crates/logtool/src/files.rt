@@ -22,6 +22,13 @@ fn header_of(bytes: &[u8]) -> Result<Header, Failure> {
     Ok(check(bytes)?)
 }
 
+// The bytes of a file, and the header that they begin with.
+fn read_image(rt: &HostRuntime, path: &str) -> Result<(Vec<u8>, Header), Failure> {
+    let image = fs::read(rt, path).map_err(Failure::File)?;
+    let header = header_of(&image)?;
+    Ok((image, header))
+}
+
 // Makes a file of so many bytes, with the header of an empty log.
 pub(crate) fn format_file(rt: &HostRuntime, path: &str, bytes: usize) -> Result<(), Failure> {
     if bytes < HEADER_BYTES {
@@ -36,16 +43,14 @@ pub(crate) fn format_file(rt: &HostRuntime, path: &str, bytes: usize) -> Result<
 
 // Tells the header's figures, where the header is in order.
 pub(crate) fn check_file(rt: &HostRuntime, path: &str) -> Result<(), Failure> {
-    let image = fs::read(rt, path).map_err(Failure::File)?;
-    let header = header_of(&image)?;
+    let (_, header) = read_image(rt, path)?;
     rt.println("the header is in order")?;
     write_header(&mut rt.stdout(), header)
 }
 
 // Lists the image of a file. The output goes through a buffer of fixed size.
 pub(crate) fn list_file(rt: &HostRuntime, path: &str) -> Result<(), Failure> {
-    let mut image = fs::read(rt, path).map_err(Failure::File)?;
-    let header = header_of(&image)?;
+    let (mut image, header) = read_image(rt, path)?;
     let mut out = BufWriter::new(rt.alloc(), rt.stdout())?;
     write_header(&mut out, header)?;
     let store = ImageStore::attach(&mut image);
@@ -56,8 +61,7 @@ pub(crate) fn list_file(rt: &HostRuntime, path: &str) -> Result<(), Failure> {
 
 // Tells what the log of a file holds at a size, where it has no fault.
 pub(crate) fn audit_file(rt: &HostRuntime, path: &str, sectors: u64) -> Result<(), Failure> {
-    let mut image = fs::read(rt, path).map_err(Failure::File)?;
-    let _ = header_of(&image)?;
+    let (mut image, _) = read_image(rt, path)?;
     let size = Size::new(sectors)?;
     let audit = audit_log(ImageStore::attach(&mut image), size)?;
     write_audit(&mut rt.stdout(), audit)
@@ -65,8 +69,7 @@ pub(crate) fn audit_file(rt: &HostRuntime, path: &str, sectors: u64) -> Result<(
 
 // Replaces the log of a file with the condensed log at a size. A refusal leaves the file as it is.
 pub(crate) fn condense_file(rt: &HostRuntime, path: &str, sectors: u64) -> Result<(), Failure> {
-    let mut image = fs::read(rt, path).map_err(Failure::File)?;
-    let _ = header_of(&image)?;
+    let (mut image, _) = read_image(rt, path)?;
     let size = Size::new(sectors)?;
     let (store, answer) = condense_log(ImageStore::attach(&mut image), size);
     let words = answer?;

@@ -39,10 +39,7 @@ its place; both end the program with status 1.
 const VERSION: &str = "logtool 0.1.0
 ";
 
-// Ends the program with status 1; what went wrong has been told by then.
-#[derive(Clone, Copy)]
-struct Failed;
-
+// Performs the command.
 fn perform(rt: &HostRuntime, command: &Command) -> Result<(), Failure> {
     match command {
         Command::Help => Ok(rt.print(HELP)?),
@@ -56,36 +53,28 @@ fn perform(rt: &HostRuntime, command: &Command) -> Result<(), Failure> {
     }
 }
 
-// Performs the command, and tells what went wrong with which file.
-fn perform_or_tell(rt: &HostRuntime, command: &Command) -> Result<(), Failed> {
-    let Err(failure) = perform(rt, command) else {
-        return Ok(());
-    };
-    let _ = match command.path() {
+// The command that the command line asks for.
+fn asked(rt: &HostRuntime) -> Result<Command, Failure> {
+    let args = std::env::args(rt).map_err(|_| Failure::NoText)?;
+    Command::from_args(args)
+}
+
+// Tells what went wrong, and with which file, where the command is about one.
+fn tell(rt: &HostRuntime, path: Option<&str>, failure: &Failure) -> ExitCode {
+    let _ = match path {
         Some(path) => eprintln!(rt; "logtool: {path}: {failure}"),
         None => eprintln!(rt; "logtool: {failure}"),
     };
-    Err(Failed)
-}
-
-// Does what the command line asks for.
-fn perform_args(rt: &HostRuntime) -> Result<(), Failed> {
-    let Ok(args) = std::env::args(rt) else {
-        let _ = eprintln!(rt; "logtool: an argument is no text");
-        return Err(Failed);
-    };
-    match Command::from_args(args) {
-        Ok(command) => perform_or_tell(rt, &command),
-        Err(failure) => {
-            let _ = eprintln!(rt; "logtool: {failure}");
-            Err(Failed)
-        }
-    }
+    ExitCode::FAILURE
 }
 
 fn main(rt: HostRuntime) -> ExitCode {
-    match perform_args(&rt) {
+    let command = match asked(&rt) {
+        Ok(command) => command,
+        Err(failure) => return tell(&rt, None, &failure),
+    };
+    match perform(&rt, &command) {
         Ok(()) => ExitCode::SUCCESS,
-        Err(Failed) => ExitCode::FAILURE,
+        Err(failure) => tell(&rt, command.path(), &failure),
     }
 }

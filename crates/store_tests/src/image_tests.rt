@@ -19,12 +19,12 @@ fn fill_and_read<S: LogStore>(rt: &impl Abort, store: &mut S) -> Result<(), Fail
         store.add(sample(i))?;
     }
     assert_eq!(rt; store.count(), WORDS);
-    assert_eq!(rt; refusal_number(store.add(1)), 9);
+    assert_eq!(rt; refusal_number(store.add(1)), Some(9));
     // By index, since `word` is tested.
     for i in 0..WORDS {
         assert_eq!(rt; store.word(i)?, sample(i));
     }
-    assert_eq!(rt; refusal_number(store.word(WORDS)), 10);
+    assert_eq!(rt; refusal_number(store.word(WORDS)), Some(10));
     Ok(())
 }
 
@@ -45,7 +45,7 @@ fn words_stay_in_the_area(rt: HostRuntime) -> Result<(), Fail> {
     let mut store = ImageStore::attach(&mut area);
     let add = refusal_number(store.add(0x0807_0605_0403_0201));
     let _ = store.detach();
-    assert_eq!(rt; add, 0);
+    assert_eq!(rt; add, None);
     assert!(rt; area[16..24] == [1, 2, 3, 4, 5, 6, 7, 8][..]);
     assert!(rt; area[0..4] == [1, 0, 0, 0][..]);
     assert!(rt; area[24..] == [7u8; 16][..]);
@@ -54,7 +54,7 @@ fn words_stay_in_the_area(rt: HostRuntime) -> Result<(), Fail> {
     let past = refusal_number(store.word(1));
     let _ = store.detach();
     assert_eq!(rt; word?, 0x0807_0605_0403_0201);
-    assert_eq!(rt; past, 10);
+    assert_eq!(rt; past, Some(10));
     Ok(())
 }
 
@@ -70,10 +70,10 @@ fn an_emptied_image_takes_words_again(rt: HostRuntime) -> Result<(), Fail> {
     let again = refusal_number(store.add(8));
     let word = store.word(0);
     let _ = store.detach();
-    assert_eq!(rt; first, 0);
-    assert_eq!(rt; full, 9);
-    assert_eq!(rt; none, 10);
-    assert_eq!(rt; again, 0);
+    assert_eq!(rt; first, None);
+    assert_eq!(rt; full, Some(9));
+    assert_eq!(rt; none, Some(10));
+    assert_eq!(rt; again, None);
     assert_eq!(rt; word?, 8);
     Ok(())
 }

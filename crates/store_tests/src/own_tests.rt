@@ -8,7 +8,7 @@ fn a_new_store_is_empty(rt: HostRuntime) {
     let store = OwnStore::new();
     assert_eq!(rt; store.count(), 0);
     assert_eq!(rt; store.capacity(), 4096);
-    assert_eq!(rt; refusal_number(store.word(0)), 10);
+    assert_eq!(rt; refusal_number(store.word(0)), Some(10));
 }
 
 #[test]
@@ -18,13 +18,13 @@ fn a_full_store_takes_no_word(rt: HostRuntime) -> Result<(), Fail> {
         store.add(i as u64 * 3)?;
     }
     assert_eq!(rt; store.count(), PLACES);
-    assert_eq!(rt; refusal_number(store.add(7)), 9);
+    assert_eq!(rt; refusal_number(store.add(7)), Some(9));
     assert_eq!(rt; store.count(), PLACES);
     // By index, since `word` is tested.
     for i in 0..PLACES {
         assert_eq!(rt; store.word(i)?, i as u64 * 3);
     }
-    assert_eq!(rt; refusal_number(store.word(PLACES)), 10);
+    assert_eq!(rt; refusal_number(store.word(PLACES)), Some(10));
     Ok(())
 }
 
@@ -35,9 +35,9 @@ fn an_emptied_store_takes_words_again(rt: HostRuntime) -> Result<(), Fail> {
     store.add(6)?;
     store.empty();
     assert_eq!(rt; store.count(), 0);
-    assert_eq!(rt; refusal_number(store.word(0)), 10);
+    assert_eq!(rt; refusal_number(store.word(0)), Some(10));
     store.add(8)?;
     assert_eq!(rt; store.word(0)?, 8);
-    assert_eq!(rt; refusal_number(store.word(1)), 10);
+    assert_eq!(rt; refusal_number(store.word(1)), Some(10));
     Ok(())
 }

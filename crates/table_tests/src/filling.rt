@@ -11,7 +11,7 @@ fn ascending(rt: HostRuntime) {
     assert!(rt; !table.insert(5000, 1));
     assert!(rt; !table.insert(3, 9));
     assert_eq!(rt; table.len() as u64, 1024);
-    assert_eq!(rt; start_of(table.last()), 1023);
+    assert_eq!(rt; key_of(table.last()), Some(1023));
     assert_eq!(rt; table.get(3).unwrap_or(0), 4);
     for start in 0..1024 {
         assert_eq!(rt; table.remove(start).unwrap_or(0), start + 1);
@@ -28,12 +28,12 @@ fn descending(rt: HostRuntime) {
         assert!(rt; table.insert(start, 7));
     }
     assert!(rt; !table.insert(5000, 1));
-    assert_eq!(rt; start_of(table.lowest_from(0)), 0);
-    assert_eq!(rt; start_of(table.highest_before(1)), 0);
-    assert_eq!(rt; start_of(table.highest_before(0)), STARTS as u64);
-    assert_eq!(rt; start_of(table.lowest_from(1024)), STARTS as u64);
+    assert_eq!(rt; key_of(table.lowest_from(0)), Some(0));
+    assert_eq!(rt; key_of(table.highest_before(1)), Some(0));
+    assert_eq!(rt; key_of(table.highest_before(0)), None);
+    assert_eq!(rt; key_of(table.lowest_from(1024)), None);
     for start in (0..1024).rev() {
-        assert_eq!(rt; start_of(table.last()), start);
+        assert_eq!(rt; key_of(table.last()), Some(start));
         assert_eq!(rt; table.remove(start).unwrap_or(0), 7);
     }
     assert_eq!(rt; table.len() as u64, 0);
@@ -47,14 +47,14 @@ fn both_sides_of_a_start(rt: HostRuntime) {
         assert!(rt; table.insert(start, 1));
     }
     let at = table.beside(20);
-    assert_eq!(rt; start_of(at.below), 10);
-    assert_eq!(rt; start_of(at.from), 20);
+    assert_eq!(rt; key_of(at.below), Some(10));
+    assert_eq!(rt; key_of(at.from), Some(20));
     let low = table.beside(10);
-    assert_eq!(rt; start_of(low.below), STARTS as u64);
-    assert_eq!(rt; start_of(low.from), 10);
+    assert_eq!(rt; key_of(low.below), None);
+    assert_eq!(rt; key_of(low.from), Some(10));
     let high = table.beside(31);
-    assert_eq!(rt; start_of(high.below), 30);
-    assert_eq!(rt; start_of(high.from), STARTS as u64);
+    assert_eq!(rt; key_of(high.below), Some(30));
+    assert_eq!(rt; key_of(high.from), None);
 }
 
 #[test]
@@ -64,9 +64,12 @@ fn spans_in_order(rt: HostRuntime) {
         assert!(rt; table.insert(span_of(number), ()));
     }
     assert!(rt; !table.insert(span_of(1024), ()));
-    assert_eq!(rt; number_of(table.last()), 1023);
+    assert_eq!(rt; key_of(table.last()), Some(span_of(1023)));
     for number in 0..1024 {
-        assert_eq!(rt; number_of(table.lowest_from(span_of(0))), number as u64);
+        assert_eq!(rt;
+            key_of(table.lowest_from(span_of(0))),
+            Some(span_of(number))
+        );
         assert!(rt; table.remove(span_of(number)).is_some());
     }
     assert_eq!(rt; table.len() as u64, 0);

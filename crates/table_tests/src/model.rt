@@ -26,38 +26,25 @@ pub(crate) fn span_of(start: usize) -> LengthKey {
     }
 }
 
-// The first start, not below a given one, that is there; or the number of starts.
-pub(crate) fn first_from(lengths: &[u64], start: usize) -> usize {
+// The first start, not below a given one, that is there.
+pub(crate) fn first_from(lengths: &[u64], start: usize) -> Option<usize> {
     lengths
         .iter()
         .enumerate()
         .position(|(i, len)| i >= start && *len != 0)
-        .unwrap_or(STARTS)
 }
 
-// The last start, below a given one, that is there; or the number of starts.
-pub(crate) fn last_before(lengths: &[u64], start: usize) -> usize {
+// The last start, below a given one, that is there.
+pub(crate) fn last_before(lengths: &[u64], start: usize) -> Option<usize> {
     lengths
         .iter()
         .enumerate()
         .filter(|(i, len)| *i < start && **len != 0)
         .last()
-        .map_or(STARTS, |(i, _)| i)
+        .map(|(i, _)| i)
 }
 
-// The start of an answer, or the number of starts.
-pub(crate) fn start_of(found: Option<Entry<u64, u64>>) -> u64 {
-    found.map_or(STARTS as u64, |pair| pair.key)
-}
-
-// The length of an answer, or 0.
-pub(crate) fn length_of(found: Option<Entry<u64, u64>>) -> u64 {
-    found.map_or(0, |pair| pair.value)
-}
-
-// The number that an answered span stands for, or the number of starts.
-pub(crate) fn number_of(found: Option<Entry<LengthKey, ()>>) -> u64 {
-    found.map_or(STARTS as u64, |pair| {
-        pair.key.len.wrapping_mul(64).wrapping_add(pair.key.start)
-    })
+// The key of an answer.
+pub(crate) fn key_of<K: Drop, V: Drop>(found: Option<Entry<K, V>>) -> Option<K> {
+    found.map(|entry| entry.key)
 }
