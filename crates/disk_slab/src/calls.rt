@@ -10,8 +10,8 @@ use crate::summary::figures_of;
 use slab_log::{Extent, Refusal, Size, Stop};
 use store::LogStore;
 
-// Each change matches on the space: with `as_mut` and `?` the check does not cover the loan. One step over a closure for the three
-// calls, which are alike but for the call and its contract, would be no plainer.
+// A call matches on what was loaded, an arm for each case of its contract. For a change `as_mut` with `?` was tried: the check does not
+// cover that loan. One step over a closure, for calls that are alike but for the call and its contract, would be no plainer.
 impl<S: LogStore> Live<S> {
     // Grants the first `want` sectors of the free extent that they fit best, and logs the grant.
     pub fn allocate(&mut self, want: u64) -> Result<Extent, Refusal>

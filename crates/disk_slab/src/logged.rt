@@ -1,4 +1,5 @@
-// Changes of the free sectors together with the log that says them.
+// Changes of the free sectors together with the log that says them. The two are arguments: a struct that lends both would hold two
+// `&mut`, which the check does not cover.
 ghost use Rattle.std.specs.Prelude.{◌≡◌};
 ghost use Rattle.disk_slab.specs.View.{running};
 ghost use Rattle.disk_slab.specs.Answers.{Allocates, after_allocate, Frees, after_free, Condenses, with_words};
@@ -69,6 +70,7 @@ pub(crate) fn condense<S: LogStore>(space: &Space, store: &mut S) -> Result<usiz
     if space.free_extents() >= MOST_EXTENTS {
         return Err(Refusal::TooManyExtents);
     }
+    // The log is emptied first, so all places count.
     let needed = space.condensed_len();
     let places = store.capacity();
     if places < needed {

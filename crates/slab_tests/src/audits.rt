@@ -4,7 +4,7 @@ use disk_slab::{Audit, Cold, Figures, Tally};
 use slab_log::{Fault, Size, Stop};
 use std::process::Abort;
 use std::test::Fail;
-use store::LogStore;
+use store::Words;
 
 // Audits a slab of 100 sectors with a log of these words twice, and looks whether the words are still there.
 fn audits(rt: &impl Abort, words: &[u64], expected: Result<Audit, Stop>) -> Result<(), Fail> {
@@ -15,10 +15,7 @@ fn audits(rt: &impl Abort, words: &[u64], expected: Result<Audit, Stop>) -> Resu
     let store = slab.close();
     assert_eq!(rt; first, expected);
     assert_eq!(rt; second, expected);
-    assert_eq!(rt; store.count(), words.len());
-    for (i, word) in words.iter().enumerate() {
-        assert_eq!(rt; store.word(i)?, *word);
-    }
+    assert!(rt; Words::of(&store).eq(words.iter().copied()));
     Ok(())
 }
 

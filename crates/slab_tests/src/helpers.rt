@@ -95,20 +95,23 @@ pub(crate) fn store_of(words: &[u64]) -> Result<OwnStore, Refusal> {
     Ok(store)
 }
 
-// Logs that the `n` sectors `first`, `first + 2`, `first + 4` and so on are taken.
+// Of the sectors `first`, `first + 2`, `first + 4` and so on the one at a place, as an extent.
+fn tooth(first: u64, place: u64) -> Result<Extent, Refusal> {
+    Extent::new(place.wrapping_mul(2).wrapping_add(first), 1)
+}
+
+// Logs that the first `n` teeth are taken.
 pub(crate) fn log_teeth(store: &mut OwnStore, first: u64, n: u64) -> Result<(), Fail> {
-    for i in 0..n {
-        let sector = i.wrapping_mul(2).wrapping_add(first);
-        add_extent(store, Effect::Allocates, Extent::new(sector, 1)?)?;
+    for place in 0..n {
+        add_extent(store, Effect::Allocates, tooth(first, place)?)?;
     }
     Ok(())
 }
 
-// Gives the `n` sectors `first`, `first + 2`, `first + 4` and so on back.
+// Gives the first `n` teeth back.
 pub(crate) fn free_teeth(slab: &mut Live<OwnStore>, first: u64, n: u64) -> Result<(), Fail> {
-    for i in 0..n {
-        let sector = i.wrapping_mul(2).wrapping_add(first);
-        slab.free(Extent::new(sector, 1)?)?;
+    for place in 0..n {
+        slab.free(tooth(first, place)?)?;
     }
     Ok(())
 }

@@ -76,24 +76,17 @@ fn count(map: &[bool]) -> u64 {
 
 // How many runs of free sectors it has.
 fn runs(map: &[bool]) -> usize {
-    let mut n = 0usize;
-    let mut before = false;
-    for free in map {
-        n = n.wrapping_add(usize::from(*free && !before));
-        before = *free;
-    }
-    n
+    map.split(|free| !*free)
+        .filter(|run| !run.is_empty())
+        .count()
 }
 
 // The length of its longest run.
 fn longest(map: &[bool]) -> u64 {
-    let mut most = 0u64;
-    let mut run = 0u64;
-    for free in map {
-        run = if *free { run.wrapping_add(1) } else { 0 };
-        most = most.max(run);
-    }
-    most
+    map.split(|free| !*free)
+        .map(|run| run.len())
+        .max()
+        .unwrap_or(0) as u64
 }
 
 fn agrees(rt: &impl Abort, space: &Space, map: &[bool]) -> Result<(), Fail> {

@@ -23,7 +23,7 @@ const FIRST_AT: usize = 8;
 const END_AT: usize = 12;
 
 // The four numbers that an image begins with.
-#[derive(Clone, Copy)]
+#[derive(Clone, Copy, PartialEq, Eq, Debug)]
 pub struct Header {
     // How many words the image has.
     pub count: u32,

@@ -37,17 +37,13 @@ fn refuses(rt: &impl Abort, header: Header) {
 
 #[test]
 fn a_sound_header_is_read(rt: HostRuntime) -> Result<(), Fail> {
-    let area = area_of(Header {
+    let header = Header {
         count: 2,
         capacity: 2,
         first: 24,
         end: 40,
-    });
-    let header = check_header(&area)?;
-    assert_eq!(rt; header.count, 2);
-    assert_eq!(rt; header.capacity, 2);
-    assert_eq!(rt; header.first, 24);
-    assert_eq!(rt; header.end, 40);
+    };
+    assert_eq!(rt; check_header(&area_of(header)), Ok(header));
     Ok(())
 }
 
