@@ -1,4 +1,4 @@
-// Sizes and extents from plain numbers.
+// Sizes and extents from plain numbers. No `TryFrom`: an extent is made of two numbers, which a pair would leave without names.
 ghost use Rattle.slab_log.specs.Make.{MakesSize, MakesExtent};
 
 use crate::extent::Extent;

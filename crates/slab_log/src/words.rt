@@ -7,6 +7,6 @@ use crate::extent::Extent;
 pub struct EntryWords {
     pub(crate) extent: Extent,
     pub(crate) effect: Effect,
-    // How many words have been given.
+    // How many words have been given. This count is all that `next` changes: a range of places would count the same.
     pub(crate) given: usize,
 }

@@ -12,7 +12,7 @@ use Rattle.space.specs.Extents.{in_list, span}
 use Rattle.space.specs.Free.{sectors_of, free_in, Longest}
 use Rattle.space.specs.declared.space.Space.{Space}
 use Rattle.space.proofs.Spaced.{run_there, listed_run}
-use Rattle.space.proofs.Searched.{Best, best_some, longest_some, longest_none, Next, next_some}
+use Rattle.space.proofs.Searched.{Best, best_some, longest_some, longest_none}
 use Rattle.space.proofs.Spaces.{spaced_in, lies_in, lengths_ordered}
 
 module _ (space : Space) where
@@ -42,10 +42,6 @@ module _ (space : Space) where
   pub best_in : (want : ℕ) (r : Option (Entry LengthKey (Unit {0}))) (e : Entry LengthKey (Unit {0})) → r ≡ first (from shorter (span 0 want) (lengths space.by_length)) → r ≡ Some e →
       Best (lengths space.by_length) want e.key
   best_in want r e found is = best_some want _ e (lengths_ordered space) (sym found ∙ is)
-
-  pub next_in : (sector : ℕ) (r : Option (Entry ℕ ℕ)) (e : Entry ℕ ℕ) → r ≡ first (from ltb sector (starts space.by_start)) → r ≡ Some e →
-      Next (starts space.by_start) sector e
-  next_in sector r e found is = next_some 0 (sectors_of space) sector _ e (spaced_in space) (sym found ∙ is)
 
   pub longest_in : (r : Option (Entry LengthKey (Unit {0}))) (e : Entry LengthKey (Unit {0})) → r ≡ last (lengths space.by_length) → r ≡ Some e → Longest (free_in space) e.key.len
   longest_in r e found is =

@@ -1,20 +1,21 @@
 -- A run of sectors granted out of a free extent: whether there is one, and what the two ends that stay free are.
-use Rattle.std.proofs.Common.{◌≡◌, ℕ, zero, suc, ◌+◌, ◌-◌, ◌<◌, ◌≤◌, true, false, ltb, ◌⊎◌, length, sym, refl, ap, ◌∙◌, subst, inl, inr, arith}
+use Rattle.std.proofs.Common.{◌≡◌, ℕ, zero, suc, ◌+◌, ◌-◌, ◌<◌, ◌≤◌, Bool, true, false, ltb, leb, ◌⊎◌, Option, None, Some, length, sym, refl, ap, ◌∙◌, subst, inl, inr, arith}
 use mathlib.Core.Path.{fun_ext}
-use Rattle.std.proofs.lemmas.Bool.{or_left, or_right, cases_eq, cases_lt, cases_Bool}
+use Rattle.std.proofs.lemmas.Bool.{or_left, or_right, cases_eq, cases_lt, cases_Bool, leb-true, leb-false}
 use Rattle.std.proofs.lemmas.Bool.Decides.{nat_tests}
+use Rattle.std.specs.Prelude.{MatchOption}
+use Rattle.std.specs.Bool.{then_some}
 use Rattle.slab_log.specs.Sectors.{Sectors, used, meets, runs}
 use Rattle.slab_log.specs.Replay.{grant, give_back}
 use Rattle.slab_log.proofs.Steps.{none_meets}
-use Rattle.table.specs.declared.node.Entry.{Entry}
 use Rattle.table.specs.Pairs.{pair, without}
 use Rattle.space.specs.Extents.{Starts, free_of, Spaced, in_list}
-use Rattle.space.specs.Tables.{Clear}
+use Rattle.space.specs.declared.run.SectorRun.{SectorRun}
+use Rattle.space.specs.Tables.{Previous, LastBefore, Clear}
 use Rattle.space.proofs.Spaced.{lies, filled, apart, holder, behind, same_len}
 use Rattle.space.proofs.Changed.{with_extent, put_spaced, put_free, without_spaced, without_free, without_length}
 use Rattle.space.proofs.Counted.{runs_free}
 use Rattle.space.proofs.Lengths.{length_put}
-use Rattle.space.proofs.Searched.{Previous}
 
 -- a sector of the extent that is in the set
 pub meets_some : (set : Sectors) (start n s : ℕ) → start ≤ s → s < start + n → set s ≡ true → meets set start n ≡ true
@@ -27,7 +28,7 @@ meets_some set start (suc n) s p q h =
 
 module _ (size : ℕ) (es : Starts) (h : Spaced 0 size es) where
   -- a sector is free exactly where the highest extent that begins at or before it reaches it
-  pub past_previous : (sector : ℕ) (e : Entry ℕ ℕ) → Previous es sector e → (s : ℕ) → e.key + e.value ≤ s → s < sector → free_of es s ≡ false
+  pub past_previous : (sector : ℕ) (e : SectorRun) → Previous es sector e.start e.len → (s : ℕ) → e.start + e.len ≤ s → s < sector → free_of es s ≡ false
   past_previous sector e p s from below =
       elim (cases_Bool (free_of es s)) [
         | inl t ↦
@@ -35,12 +36,12 @@ module _ (size : ℕ) (es : Starts) (h : Spaced 0 size es) where
             let start-from = x.from in
             let start-to = x.to in
             let high = p.highest x.start x.len x.listed (omega arith) in
-            elim (cases_eq x.start e.key) [
+            elim (cases_eq x.start e.start) [
               | inl same ↦
-                  let long = same_len 0 size es h x.start x.len e.key e.value x.listed p.listed same in
+                  let long = same_len 0 size es h x.start x.len e.start e.len x.listed p.listed same in
                   absurd (omega arith)
               | inr other ↦
-                  let gap = behind 0 size es h x.start x.len e.key e.value x.listed p.listed (omega arith) in
+                  let gap = behind 0 size es h x.start x.len e.start e.len x.listed p.listed (omega arith) in
                   absurd (omega arith)
             ]
         | inr f ↦ f
@@ -67,18 +68,31 @@ module _ (size : ℕ) (es : Starts) (h : Spaced 0 size es) where
       meets_some (used size (free_of es)) start len start (omega arith) (omega arith) (used_there start (omega arith) (before_all (start + 1) none start (omega arith)))
 
   -- the one that does ends before the run does
-  pub short_holds : (start len : ℕ) (e : Entry ℕ ℕ) → 1 ≤ len → start + len ≤ size → Previous es (start + 1) e → e.key + e.value < start + len →
+  pub short_holds : (start len : ℕ) (e : SectorRun) → 1 ≤ len → start + len ≤ size → Previous es (start + 1) e.start e.len → e.start + e.len < start + len →
       meets (used size (free_of es)) start len ≡ true
   short_holds start len e some fits p short =
       let at = p.before in
-      elim (cases_lt start (e.key + e.value)) [
+      elim (cases_lt start (e.start + e.len)) [
         | inl l ↦
-            meets_some (used size (free_of es)) start len (e.key + e.value) (omega arith) short
-            (used_there (e.key + e.value) (omega arith) (apart 0 size es h e.key e.value p.listed (e.key + e.value) (inr refl)))
+            meets_some (used size (free_of es)) start len (e.start + e.len) (omega arith) short
+            (used_there (e.start + e.len) (omega arith) (apart 0 size es h e.start e.len p.listed (e.start + e.len) (inr refl)))
         | inr l ↦
             meets_some (used size (free_of es)) start len start (omega arith) (omega arith)
             (used_there start (omega arith) (past_previous (start + 1) e p start l (omega arith)))
       ]
+
+  -- so the last that begins at or before the run holds it, or a sector of the run is in use
+  pub holds_is : (start len : ℕ) → 1 ≤ len → start + len ≤ size → (o kept : Option SectorRun) → LastBefore es (start + 1) o →
+      MatchOption o (kept ≡ None) (λ e. kept ≡ then_some (leb (start + len) (e.start + e.len)) e) →
+      MatchOption kept (meets (used size (free_of es)) start len ≡ true)
+      (λ e. (in_list e.start e.len es ≡ true) × (e.start ≤ start) × (start + len ≤ e.start + e.len))
+  holds_is start len some fits None kept none k = rw k (none_holds start len some fits none)
+  holds_is start len some fits (Some e) kept p k = rw k (go (leb (start + len) (e.start + e.len)) refl)
+    where
+      go : (b : Bool) → leb (start + len) (e.start + e.len) ≡ b → MatchOption (then_some b e) (meets (used size (free_of es)) start len ≡ true)
+          (λ x. (in_list x.start x.len es ≡ true) × (x.start ≤ start) × (start + len ≤ x.start + x.len))
+      go true t = let before = p.before in (p.listed, omega arith, leb-true _ _ t)
+      go false t = short_holds start len e some fits p (leb-false _ _ t)
 
   module _ (k v : ℕ) (i : in_list k v es ≡ true) (start len : ℕ) (some : 1 ≤ len) (low : k ≤ start) (high : start + len ≤ k + v) where
     inside : (s : ℕ) → k ≤ s → s < k + v → free_of es s ≡ true

@@ -1,14 +1,16 @@
 -- The runs of used sectors, between the free extents.
-use Rattle.std.proofs.Common.{◌≡◌, ℕ, zero, suc, ◌+◌, ◌-◌, ◌<◌, ◌≤◌, Bool, true, false, not, ◌&&◌, ◌⊎◌, sym, refl, ap, ◌∙◌, inl, inr, arith}
-use Rattle.std.proofs.lemmas.Bool.{cases_Bool, cases_lt, both_ways}
+use Rattle.std.proofs.Common.{◌≡◌, ℕ, zero, suc, ◌+◌, ◌-◌, ◌<◌, ◌≤◌, Bool, true, false, ltb, leb, not, ◌&&◌, ◌⊎◌, Option, None, Some, sym, refl, ap, ◌∙◌, inl, inr, arith}
+use Rattle.std.proofs.lemmas.Bool.{cases_Bool, cases_lt, both_ways, ltb-true, ltb-false, leb-true, leb-false}
 use Rattle.std.proofs.lemmas.Bool.Decides.{nat_tests}
+use Rattle.std.specs.Prelude.{MatchOption}
+use Rattle.std.specs.Bool.{then_some}
 use Rattle.slab_log.specs.Sectors.{Sectors, Run, used, begins}
 use Rattle.slab_log.proofs.Steps.{from_T, to_T, to_not_T, run_ends}
-use Rattle.table.specs.declared.node.Entry.{Entry}
 use Rattle.space.specs.Extents.{Starts, free_of, Spaced, in_list}
-use Rattle.space.specs.Tables.{RightEdge, UsedFrom, UsedTo}
+use Rattle.space.specs.declared.run.SectorRun.{SectorRun}
+use Rattle.space.specs.Tables.{LastBefore, Next, FirstFrom, RightEdge, UsedFrom, FreeTo, UsedTo}
+use Rattle.space.proofs.Cutting.{past_previous, before_all}
 use Rattle.space.proofs.Spaced.{lies, filled, apart, holder}
-use Rattle.space.proofs.Searched.{Next}
 
 pub begins_on : (set : Sectors) (s : ℕ) → begins set s ≡ true → set s ≡ true
 begins_on set zero h = h
@@ -104,24 +106,55 @@ module _ (size : ℕ) (es : Starts) (h : Spaced 0 size es) where
   quiet_to sector bound one within off far s p q =
       after_begins inuse s (s - 1) (omega arith) (not_free_used (s - 1) (omega arith) (still sector bound one off far (s - 1) (omega arith) (omega arith)))
 
-  pub after_next : (sector : ℕ) (e : Entry ℕ ℕ) → 1 ≤ sector → free_of es (sector - 1) ≡ false → Next es sector e → UsedFrom inuse size sector (e.key + e.value)
+  pub after_next : (sector : ℕ) (e : SectorRun) → 1 ≤ sector → free_of es (sector - 1) ≡ false → Next es sector e.start e.len → UsedFrom inuse size sector (e.start + e.len)
   after_next sector e one off n =
-      let at = lies 0 size es h e.key e.value n.listed in
+      let at = lies 0 size es h e.start e.len n.listed in
       let from = n.from in
-      behind_free sector e.key e.value n.listed (omega arith)
-      (λ s p q. quiet_to sector e.key one (omega (arith, at.within)) off (λ a b i k. n.lowest a b i k) s p q)
+      behind_free sector e.start e.len n.listed (omega arith)
+      (λ s p q. quiet_to sector e.start one (omega (arith, at.within)) off (λ a b i k. n.lowest a b i k) s p q)
 
-  pub to_the_end : (sector last : ℕ) → 1 ≤ sector → free_of es (sector - 1) ≡ false → ((s l : ℕ) → in_list s l es ≡ true → s < sector) → size ≤ last → sector ≤ last →
-      ((s : ℕ) → s < last → s < size ⊎ (size ≤ s)) → UsedFrom inuse size sector last
-  to_the_end sector last one off none far from each =
-      record {
-        from = from;
-        quiet = λ s p q. elim (each s q) [
-          | inl l ↦ quiet_to sector size one (omega arith) off (λ a b i k. let z = none a b i in absurd (omega arith)) s p l
-          | inr l ↦ off_begins inuse s (grind (arith, nat_tests))
-        ];
-        here = λ k. absurd (omega arith);
-      }
+  -- without a free extent from the sector on no run begins there
+  quiet_from : (sector : ℕ) → 1 ≤ sector → free_of es (sector - 1) ≡ false → ((s l : ℕ) → in_list s l es ≡ true → s < sector) →
+      (s : ℕ) → sector ≤ s → begins inuse s ≡ false
+  quiet_from sector one off none s p =
+      elim (cases_lt s size) [
+        | inl l ↦ quiet_to sector size one (omega arith) off (λ a b i k. let z = none a b i in absurd (omega arith)) s p l
+        | inr l ↦ off_begins inuse s (grind (arith, nat_tests))
+      ]
+
+  further : (sector : ℕ) → 1 ≤ sector → free_of es (sector - 1) ≡ false → (o : Option SectorRun) (end : Option ℕ) → FirstFrom es sector o →
+      MatchOption o (end ≡ None) (λ e. end ≡ Some (e.start + e.len)) → FreeTo inuse size sector end
+  further sector one off None end none is = rw is (quiet_from sector one off none)
+  further sector one off (Some e) end n is = rw is (after_next sector e one off n)
+
+  -- so the last free extent before the sector, where it reaches the sector, or else the first from there on says where a run begins
+  pub free_to_is : (sector : ℕ) → 1 ≤ sector → (o kept found : Option SectorRun) (end : Option ℕ) → LastBefore es sector o →
+      MatchOption o (kept ≡ None) (λ e. kept ≡ then_some (leb sector (e.start + e.len)) e) →
+      MatchOption kept (FirstFrom es sector found) (λ e. found ≡ Some e) →
+      MatchOption found (end ≡ None) (λ e. end ≡ Some (e.start + e.len)) → FreeTo inuse size sector end
+  free_to_is sector one None kept found end none k f is =
+      further sector one (before_all size es h sector none (sector - 1) (omega arith)) found end (rw k at f) is
+  free_to_is sector one (Some e) kept found end p k f is = go (leb sector (e.start + e.len)) refl (rw k at f)
+    where
+      go : (b : Bool) → leb sector (e.start + e.len) ≡ b → MatchOption (then_some b e) (FirstFrom es sector found) (λ x. found ≡ Some x) → FreeTo inuse size sector end
+      go true t f =
+          let ends : end ≡ Some (e.start + e.len) = rw f at is in
+          let before = p.before in
+          rw ends (behind_free sector e.start e.len p.listed (leb-true _ _ t) (λ s a b. absurd (omega arith)))
+      go false t f =
+          further sector one (past_previous size es h sector e p (sector - 1) (let short = leb-false _ _ t in omega arith) (omega arith)) found end f is
+
+  -- and the run begins there, where the slab has not ended
+  pub starts_is : (sector : ℕ) (o kept : Option ℕ) → FreeTo inuse size sector o → MatchOption o (kept ≡ None) (λ n. kept ≡ then_some (ltb n size) n) →
+      MatchOption kept ((s : ℕ) → sector ≤ s → begins inuse s ≡ false) (λ n. UsedFrom inuse size sector n × (n < size))
+  starts_is sector None kept quiet k = rw k quiet
+  starts_is sector (Some n) kept from k = rw k (go (ltb n size) refl)
+    where
+      go : (b : Bool) → ltb n size ≡ b → MatchOption (then_some b n) ((s : ℕ) → sector ≤ s → begins inuse s ≡ false) (λ n. UsedFrom inuse size sector n × (n < size))
+      go true t = (from, ltb-true _ _ t)
+      go false t =
+          let past = ltb-false _ _ t in
+          λ s p. elim (cases_lt s n) [ inl l ↦ from.quiet s p l | inr l ↦ off_begins inuse s (grind (arith, nat_tests)) ]
 
   -- the run from there on
   pub run_from : (sector start end : ℕ) → UsedFrom inuse size sector start → start < size → start < end → end ≤ size →
@@ -156,19 +189,19 @@ module _ (size : ℕ) (es : Starts) (h : Spaced 0 size es) where
   not_free_here sector start from below = let on = begins_on inuse start (from.here below) in grind (arith, nat_tests)
 
   -- up to the next free extent, or to the end of the slab
-  pub to_next : (start : ℕ) (e : Entry ℕ ℕ) → free_of es start ≡ false → Next es start e → UsedTo size (free_of es) start e.key
+  pub to_next : (start : ℕ) (e : SectorRun) → free_of es start ≡ false → Next es start e.start e.len → UsedTo size (free_of es) start e.start
   to_next start e off n =
-      let at = lies 0 size es h e.key e.value n.listed in
+      let at = lies 0 size es h e.start e.len n.listed in
       let from = n.from in
-      let on = filled 0 size es h e.key e.value n.listed e.key (omega arith) (omega (arith, at.some)) in
+      let on = filled 0 size es h e.start e.len n.listed e.start (omega arith) (omega (arith, at.some)) in
       record {
-        some = elim (cases_lt start e.key) [
+        some = elim (cases_lt start e.start) [
           | inl l ↦ l
-          | inr l ↦ let is : e.key ≡ start = omega arith in absurd (both_ways _ off (ap (free_of es) (sym is) ∙ on))
+          | inr l ↦ let is : e.start ≡ start = omega arith in absurd (both_ways _ off (ap (free_of es) (sym is) ∙ on))
         ];
         within = omega (arith, at.within);
-        filled = λ s p q. none_up_to start e.key off (λ a b i k. n.lowest a b i k) s p q;
-        after = free_not_used e.key on;
+        filled = λ s p q. none_up_to start e.start off (λ a b i k. n.lowest a b i k) s p q;
+        after = free_not_used e.start on;
       }
 
   pub to_size : (start : ℕ) → start < size → free_of es start ≡ false → ((s l : ℕ) → in_list s l es ≡ true → s < start) → UsedTo size (free_of es) start size
@@ -179,6 +212,12 @@ module _ (size : ℕ) (es : Starts) (h : Spaced 0 size es) where
         filled = λ s p q. none_up_to start size off (λ a b i k. let z = none a b i in absurd (omega arith)) s p q;
         after = grind (arith, nat_tests);
       }
+
+  -- so the first free extent from a used sector on says where the used ones end
+  pub to_is : (start : ℕ) → start < size → free_of es start ≡ false → (o : Option SectorRun) → FirstFrom es start o → (end : ℕ) →
+      MatchOption o (end ≡ size) (λ e. end ≡ e.start) → UsedTo size (free_of es) start end
+  to_is start below off None none end is = rw is (to_size start below off none)
+  to_is start below off (Some e) n end is = rw is (to_next start e off n)
 
 -- a run of used sectors begins within the slab
 pub run_inside : (size : ℕ) (free : Sectors) (s l : ℕ) → Run (used size free) s l → s < size

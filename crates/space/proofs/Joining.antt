@@ -1,20 +1,20 @@
 -- A run of sectors made free: it grows together with the free extents beside it.
-use Rattle.std.proofs.Common.{◌≡◌, ℕ, ◌+◌, ◌-◌, ◌<◌, ◌≤◌, min, true, false, ltb, length, sym, ap, ◌∙◌, subst, inl, inr, arith}
+use Rattle.std.proofs.Common.{◌≡◌, ℕ, ◌+◌, ◌-◌, ◌<◌, ◌≤◌, min, Bool, true, false, ltb, Option, None, Some, length, sym, ap, ◌∙◌, subst, inl, inr, arith}
 use mathlib.Core.Path.{fun_ext}
-use Rattle.std.proofs.lemmas.Bool.{cases_lt}
+use Rattle.std.proofs.lemmas.Bool.{cases_lt, lt-ltb, le-ltb}
 use Rattle.std.proofs.lemmas.Bool.Decides.{nat_tests}
+use Rattle.std.specs.Prelude.{MatchOption}
 use Rattle.slab_log.specs.Sectors.{Sectors, Run, meets, runs}
 use Rattle.slab_log.specs.Replay.{grant, give_back}
 use Rattle.slab_log.proofs.Steps.{none_meets, meets_none, to_T, to_not_T}
-use Rattle.table.specs.declared.node.Entry.{Entry}
 use Rattle.table.specs.Pairs.{pair, without}
 use Rattle.space.specs.Extents.{Starts, free_of, Spaced, in_list}
-use Rattle.space.specs.Tables.{Clear, LeftEdge, RightEdge}
+use Rattle.space.specs.declared.run.SectorRun.{SectorRun}
+use Rattle.space.specs.Tables.{Previous, LastBefore, Clear, LeftEdge, RightEdge}
 use Rattle.space.proofs.Spaced.{lies, filled, apart, listed_run}
 use Rattle.space.proofs.Changed.{with_extent, put_spaced, put_free, without_spaced, without_free, without_length}
 use Rattle.space.proofs.Counted.{runs_free}
 use Rattle.space.proofs.Lengths.{length_put}
-use Rattle.space.proofs.Searched.{Previous}
 use Rattle.space.proofs.Cutting.{meets_some, past_previous, before_all}
 
 -- the list without an extent, unless that is empty
@@ -36,21 +36,31 @@ less size es h a n listed =
 
 module _ (size : ℕ) (es : Starts) (h : Spaced 0 size es) where
   -- a sector of a run is free exactly where the highest extent that begins before its end reaches into it
-  pub reached : (start len : ℕ) (e : Entry ℕ ℕ) → 1 ≤ len → Previous es (start + len) e → start < e.key + e.value → meets (free_of es) start len ≡ true
+  pub reached : (start len : ℕ) (e : SectorRun) → 1 ≤ len → Previous es (start + len) e.start e.len → start < e.start + e.len → meets (free_of es) start len ≡ true
   reached start len e some p l =
       let at = p.before in
-      let there = lies 0 size es h e.key e.value p.listed in
-      elim (cases_lt start e.key) [
-        | inl k ↦ meets_some (free_of es) start len e.key (omega arith) at (filled 0 size es h _ _ p.listed e.key (omega arith) (omega (arith, there.some)))
+      let there = lies 0 size es h e.start e.len p.listed in
+      elim (cases_lt start e.start) [
+        | inl k ↦ meets_some (free_of es) start len e.start (omega arith) at (filled 0 size es h _ _ p.listed e.start (omega arith) (omega (arith, there.some)))
         | inr k ↦ meets_some (free_of es) start len start (omega arith) (omega arith) (filled 0 size es h _ _ p.listed start k l)
       ]
 
-  pub unreached : (start len : ℕ) (e : Entry ℕ ℕ) → Previous es (start + len) e → e.key + e.value ≤ start → meets (free_of es) start len ≡ false
+  pub unreached : (start len : ℕ) (e : SectorRun) → Previous es (start + len) e.start e.len → e.start + e.len ≤ start → meets (free_of es) start len ≡ false
   unreached start len e p l =
       none_meets (free_of es) start len (λ s a b. past_previous size es h (start + len) e p s (omega arith) b)
 
   pub nothing_reaches : (start len : ℕ) → ((s l : ℕ) → in_list s l es ≡ true → start + len ≤ s) → meets (free_of es) start len ≡ false
   nothing_reaches start len none = none_meets (free_of es) start len (λ s a b. before_all size es h (start + len) none s b)
+
+  -- so a test of that extent says whether a sector of the run is free
+  pub reaches_is : (start len : ℕ) → 1 ≤ len → (o : Option SectorRun) → LastBefore es (start + len) o → (b : Bool) →
+      MatchOption o (b ≡ false) (λ e. b ≡ ltb start (e.start + e.len)) → b ≡ meets (free_of es) start len
+  reaches_is start len some None none b is = is ∙ sym (nothing_reaches start len none)
+  reaches_is start len some (Some e) p b is =
+      elim (cases_lt start (e.start + e.len)) [
+        | inl l ↦ is ∙ (lt-ltb _ _ l ∙ sym (reached start len e some p l))
+        | inr l ↦ is ∙ (le-ltb _ _ l ∙ sym (unreached start len e p l))
+      ]
 
   module _ (start len first last : ℕ) (some : 1 ≤ len) (fits : start + len ≤ size) (none : meets (free_of es) start len ≡ false)
       (left : LeftEdge es start first) (right : RightEdge es (start + len) last) where

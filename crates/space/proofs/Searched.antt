@@ -7,6 +7,7 @@ use Rattle.table.specs.declared.key.LengthKey.{LengthKey}
 use Rattle.table.specs.Pairs.{Each, Ordered, alike, has, under, from, first, last}
 use Rattle.table.specs.Order.{shorter}
 use Rattle.space.specs.Extents.{Starts, Lengths, Spaced, in_list, span}
+use Rattle.space.specs.Tables.{Previous, Next}
 use Rattle.space.proofs.Spaced.{first_or_rest, lies}
 
 -- a list's extents, as its first or one of the rest
@@ -17,17 +18,12 @@ there : (s l : ℕ) (e : Entry ℕ ℕ) (es : Starts) → in_list s l es ≡ tru
 there s l e es h = or_right _ (in_list s l es) h
 
 -- the lowest extent that begins at or after a sector
-pub record Next (es : Starts) (sector : ℕ) (e : Entry ℕ ℕ) : Type 0 where
-  pub listed : in_list e.key e.value es ≡ true
-  pub from : sector ≤ e.key
-  pub lowest : (s l : ℕ) → in_list s l es ≡ true → sector ≤ s → e.key ≤ s
-
-pub next_some : (low size sector : ℕ) (es : Starts) (e : Entry ℕ ℕ) → Spaced low size es → first (from ltb sector es) ≡ Some e → Next es sector e
+pub next_some : (low size sector : ℕ) (es : Starts) (e : Entry ℕ ℕ) → Spaced low size es → first (from ltb sector es) ≡ Some e → Next es sector e.key e.value
 next_some low size sector [] e h f = let z : ◌≡◌ {A = ℕ} 0 1 = cc in absurd (omega arith)
 next_some low size sector (y ∷ ys) e h f = go (ltb y.key sector) refl f (next_some (y.key + y.value + 1) size sector ys e h.3)
   where
     go : (b : Bool) → ltb y.key sector ≡ b → first (cond b (from ltb sector ys) (y ∷ from ltb sector ys)) ≡ Some e →
-        (first (from ltb sector ys) ≡ Some e → Next ys sector e) → Next (y ∷ ys) sector e
+        (first (from ltb sector ys) ≡ Some e → Next ys sector e.key e.value) → Next (y ∷ ys) sector e.key e.value
     go true t g ih =
         let n = ih g in
         let below = ltb-true _ _ t in
@@ -69,12 +65,6 @@ last_none [] h = refl
 last_none (z ∷ []) h = let n : ◌≡◌ {A = ℕ} 0 1 = cc in absurd (omega arith)
 last_none (z ∷ y ∷ zs) h = let e : y ∷ zs ≡ [] = last_none (y ∷ zs) h in let n : ◌≡◌ {A = ℕ} 0 1 = cc in absurd (omega arith)
 
--- the highest extent that begins before a sector
-pub record Previous (es : Starts) (sector : ℕ) (e : Entry ℕ ℕ) : Type 0 where
-  pub listed : in_list e.key e.value es ≡ true
-  pub before : e.key < sector
-  pub highest : (s l : ℕ) → in_list s l es ≡ true → s < sector → s ≤ e.key
-
 nothing_under : (sector : ℕ) (es : Starts) → under ltb sector es ≡ [] → (s l : ℕ) → in_list s l es ≡ true → sector ≤ s
 nothing_under sector [] f s l i = absurd (both_ways false refl i)
 nothing_under sector (y ∷ ys) f s l i = go (ltb y.key sector) refl f (nothing_under sector ys)
@@ -89,11 +79,11 @@ nothing_under sector (y ∷ ys) f s l i = go (ltb y.key sector) refl f (nothing_
 pub previous_none : (sector : ℕ) (es : Starts) → last (under ltb sector es) ≡ None → (s l : ℕ) → in_list s l es ≡ true → sector ≤ s
 previous_none sector es f = nothing_under sector es (last_none (under ltb sector es) f)
 
-pub previous_some : (low size sector : ℕ) (es : Starts) (e : Entry ℕ ℕ) → Spaced low size es → last (under ltb sector es) ≡ Some e → Previous es sector e
+pub previous_some : (low size sector : ℕ) (es : Starts) (e : Entry ℕ ℕ) → Spaced low size es → last (under ltb sector es) ≡ Some e → Previous es sector e.key e.value
 previous_some low size sector [] e h f = let z : ◌≡◌ {A = ℕ} 0 1 = cc in absurd (omega arith)
 previous_some low size sector (y ∷ ys) e h f = go (ltb y.key sector) refl f (previous_some (y.key + y.value + 1) size sector ys e h.3)
   where
-    later : Previous ys sector e → Previous (y ∷ ys) sector e
+    later : Previous ys sector e.key e.value → Previous (y ∷ ys) sector e.key e.value
     later p =
         let at = lies (y.key + y.value + 1) size ys h.3 e.key e.value p.listed in
         record {
@@ -103,7 +93,7 @@ previous_some low size sector (y ∷ ys) e h f = go (ltb y.key sector) refl f (p
         }
 
     go : (b : Bool) → ltb y.key sector ≡ b → last (cond b (y ∷ under ltb sector ys) (under ltb sector ys)) ≡ Some e →
-        (last (under ltb sector ys) ≡ Some e → Previous ys sector e) → Previous (y ∷ ys) sector e
+        (last (under ltb sector ys) ≡ Some e → Previous ys sector e.key e.value) → Previous (y ∷ ys) sector e.key e.value
     go true t g ih =
         elim (last_of y (under ltb sector ys) e g) [
           | inl more ↦ later (ih more)

@@ -5,8 +5,7 @@ use native.Mathlib.Bridge.{le_prop}
 use Rattle.table.specs.Order.{shorter}
 use Rattle.slab_log.specs.Limits.{most_extents}
 use Rattle.slab_log.specs.Sectors.{Sectors, runs}
-use Rattle.table.specs.declared.node.Entry.{Entry}
-use Rattle.table.specs.Pairs.{Ordered, under, last}
+use Rattle.table.specs.Pairs.{Ordered}
 use Rattle.table.specs.Table.{pairs as starts}
 use Rattle.table.specs.Table.{pairs as lengths}
 use Rattle.table.proofs.Soundness.{known}
@@ -16,7 +15,6 @@ use Rattle.space.specs.Tables.{Moved}
 use Rattle.space.specs.declared.space.Space.{Space}
 use Rattle.space.proofs.Spaced.{Lies, lies}
 use Rattle.space.proofs.Counted.{runs_free}
-use Rattle.space.proofs.Searched.{Previous, previous_some}
 use Rattle.space.proofs.Moves.{Held}
 
 spaced_once : (low size : ℕ) (es : Starts) (p q : Spaced low size es) → p ≡ q
@@ -40,10 +38,6 @@ few_in space =
 
 pub lies_in : (space : Space) (start len : ℕ) → in_list start len (starts space.by_start) ≡ true → Lies 0 (sectors_of space) start len
 lies_in space start len i = lies 0 (sectors_of space) _ (spaced_in space) start len i
-
-pub previous_in : (space : Space) (sector : ℕ) (r : Option (Entry ℕ ℕ)) (e : Entry ℕ ℕ) → r ≡ last (under ltb sector (starts space.by_start)) → r ≡ Some e →
-    Previous (starts space.by_start) sector e
-previous_in space sector r e found is = previous_some 0 (sectors_of space) sector _ e (spaced_in space) (sym found ∙ is)
 
 -- as many free extents as the table of starts has pairs
 pub runs_in : (space : Space) → runs (free_in space) (sectors_of space) ≡ length (starts space.by_start)

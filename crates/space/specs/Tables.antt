@@ -1,10 +1,10 @@
 -- What the changes of a space's tables ask and leave.
 use Rattle.std.specs.Prelude.{◌≡◌, ℕ, ◌+◌, ◌-◌, ◌<◌, ◌≤◌, true, false, Some, None, Option}
 use Rattle.slab_log.specs.Sectors.{Sectors, used, meets, begins}
-use Rattle.table.specs.declared.node.Entry.{Entry}
 use Rattle.table.specs.Table.{pairs}
 use Rattle.space.specs.Extents.{Starts, free_of, in_list}
 use Rattle.space.specs.Free.{sectors_of, free_in}
+use Rattle.space.specs.declared.run.SectorRun.{SectorRun}
 use Rattle.space.specs.declared.space.Space.{Space}
 
 -- no sector of an extent is free, nor one beside it
@@ -16,9 +16,31 @@ pub record Moved (before after : Space) (free : Sectors) : Type 0 where
   pub sectors : free_in after ≡ free
   pub size : after.size ≡ before.size
 
+-- of the extents that begin before a sector the last one
+pub record Previous (es : Starts) (sector start len : ℕ) : Type 0 where
+  pub listed : in_list start len es ≡ true
+  pub before : start < sector
+  pub highest : (s l : ℕ) → in_list s l es ≡ true → s < sector → s ≤ start
+
+-- the same, or nothing where no extent does
+abbrev pub LastBefore : Starts → ℕ → Option SectorRun → Type 0
+LastBefore es sector (Some e) = Previous es sector e.start e.len
+LastBefore es sector None = (s l : ℕ) → in_list s l es ≡ true → sector ≤ s
+
+-- of the extents that begin at or after a sector the first one
+pub record Next (es : Starts) (sector start len : ℕ) : Type 0 where
+  pub listed : in_list start len es ≡ true
+  pub from : sector ≤ start
+  pub lowest : (s l : ℕ) → in_list s l es ≡ true → sector ≤ s → start ≤ s
+
+-- the same, or nothing where no extent does
+abbrev pub FirstFrom : Starts → ℕ → Option SectorRun → Type 0
+FirstFrom es sector (Some e) = Next es sector e.start e.len
+FirstFrom es sector None = (s l : ℕ) → in_list s l es ≡ true → s < sector
+
 -- the free extent with all sectors of a run; nothing where one of them is in use
-abbrev pub Holds : Space → ℕ → ℕ → Option (Entry ℕ ℕ) → Type 0
-Holds space start len (Some e) = (in_list e.key e.value (pairs space.by_start) ≡ true) × (e.key ≤ start) × (start + len ≤ e.key + e.value)
+abbrev pub Holds : Space → ℕ → ℕ → Option SectorRun → Type 0
+Holds space start len (Some h) = (in_list h.start h.len (pairs space.by_start) ≡ true) × (h.start ≤ start) × (start + len ≤ h.start + h.len)
 Holds space start len None = meets (used (sectors_of space) (free_in space)) start len ≡ true
 
 -- where the free extent that ends at a used sector begins; that sector, if there is none
@@ -34,11 +56,16 @@ pub record RightEdge (es : Starts) (end last : ℕ) : Type 0 where
   pub alone : (s : ℕ) → s + 1 ≡ end → free_of es s ≡ false → last ≡ end → free_of es end ≡ false
   pub alone_first : last ≡ end → end ≡ 0 → free_of es end ≡ false
 
--- where the first longest run of the set that begins at or after a sector begins; the size or more, if there is none
+-- where the first longest run of the set that begins at or after a sector begins; the size, where it would begin behind the slab
 pub record UsedFrom (set : Sectors) (size sector start : ℕ) : Type 0 where
   pub from : sector ≤ start
   pub quiet : (s : ℕ) → sector ≤ s → s < start → begins set s ≡ false
   pub here : start < size → begins set start ≡ true
+
+-- the same, or nothing where no run of the set begins there
+abbrev pub FreeTo : Sectors → ℕ → ℕ → Option ℕ → Type 0
+FreeTo set size sector (Some end) = UsedFrom set size sector end
+FreeTo set size sector None = (s : ℕ) → sector ≤ s → begins set s ≡ false
 
 -- where the sectors end that are used from a used one on
 pub record UsedTo (size : ℕ) (free : Sectors) (start end : ℕ) : Type 0 where

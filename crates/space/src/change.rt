@@ -9,7 +9,6 @@ ghost use Rattle.space.specs.Tables.{Moved, Holds, LeftEdge, RightEdge};
 use crate::run::SectorRun;
 use crate::space::Space;
 use slab_log::{Extent, Fault};
-use table::Entry;
 
 // The most free extents of a slab.
 const MOST_EXTENTS: usize = 1024;
@@ -33,13 +32,11 @@ impl Space {
     pub(crate) fn grant_run(&mut self, run: SectorRun) -> Result<(), Fault>
         ensures { Changes self.old (granting (sectors_of self.old) (free_in self.old) run.start run.len) self.new result }
     {
-        if run.start + run.len > self.size.sectors {
+        if run.end() > self.size.sectors {
             return Err(Fault::Bounds);
         }
-        let Some(holder) = self.holder(run) else {
-            return Err(Fault::Taken);
-        };
-        let inside = (holder.key < run.start) & (run.start + run.len < holder.key + holder.value);
+        let holder = self.holder(run).ok_or(Fault::Taken)?;
+        let inside = (holder.start < run.start) & (run.end() < holder.end());
         if inside & (self.by_start.len() >= MOST_EXTENTS) {
             return Err(Fault::Crowded);
         }
@@ -48,35 +45,31 @@ impl Space {
     }
 
     // The free extent that has all sectors of a run, which lies within the slab.
-    fn holder(&self, run: SectorRun) -> Option<Entry<u64, u64>>
+    fn holder(&self, run: SectorRun) -> Option<SectorRun>
         requires { run.start + run.len ≤ sectors_of self.now }
         ensures { Holds self.now run.start run.len result }
     {
-        let holder = self.by_start.highest_before(run.start + 1)?;
-        if holder.key + holder.value < run.start + run.len {
-            return None;
-        }
-        Some(holder)
+        self.last_before(run.start + 1)
+            .filter(|holder| run.end() <= holder.end())
     }
 
     // Grants a run of a free extent.
-    fn cut(&mut self, holder: Entry<u64, u64>, run: SectorRun)
+    fn cut(&mut self, holder: SectorRun, run: SectorRun)
         requires held { Holds self.old run.start run.len (Some holder) }
-        requires room { holder.key < run.start → run.start + run.len < holder.key + holder.value → length (starts self.old.by_start) < 1024 }
+        requires room { holder.start < run.start → run.start + run.len < holder.start + holder.len → length (starts self.old.by_start) < 1024 }
         ensures { Moved self.old self.new (grant (free_in self.old) run.start run.len) }
     {
-        let end = run.start + run.len;
-        let holder_end = holder.key + holder.value;
-        self.take_out(holder.key, holder.value);
-        self.put_end(holder.key, run.start - holder.key);
-        self.put_end(end, holder_end - end);
+        let end = run.end();
+        self.take_out(holder);
+        self.put_end(holder.start, run.start - holder.start);
+        self.put_end(end, holder.end() - end);
     }
 
     pub(crate) fn return_run(&mut self, run: SectorRun) -> Result<(), Fault>
         ensures { Changes self.old (returning (sectors_of self.old) (free_in self.old) run.start run.len) self.new result }
     {
         let start = run.start;
-        let end = start + run.len;
+        let end = run.end();
         if end > self.size.sectors {
             return Err(Fault::Bounds);
         }
@@ -102,35 +95,25 @@ impl Space {
     pub(crate) fn reaches(&self, run: SectorRun) -> bool
         ensures { result ≡ meets (free_in self.now) run.start run.len }
     {
-        match self.by_start.highest_before(run.start + run.len) {
-            None => false,
-            Some(e) => run.start < e.key + e.value,
-        }
+        self.last_before(run.end())
+            .is_some_and(|free| run.start < free.end())
     }
 
     // Where the free extent begins that ends at a sector; the sector itself, if there is none.
     pub(crate) fn left_edge(&self, start: u64) -> u64
         ensures { LeftEdge (starts self.now.by_start) start result }
     {
-        match self.by_start.highest_before(start) {
-            None => start,
-            Some(e) => {
-                if e.key + e.value == start {
-                    e.key
-                } else {
-                    start
-                }
-            }
-        }
+        self.last_before(start)
+            .filter(|free| free.end() == start)
+            .map_or(start, |free| free.start)
     }
 
     // Where the free extent ends that begins at a sector; the sector itself, if there is none.
     pub(crate) fn right_edge(&self, end: u64) -> u64
         ensures { RightEdge (starts self.now.by_start) end result }
     {
-        match self.by_start.get(end) {
-            None => end,
-            Some(len) => end + len,
-        }
+        self.first_from(end)
+            .filter(|free| free.start == end)
+            .map_or(end, |free| free.end())
     }
 }

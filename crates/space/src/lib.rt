@@ -6,6 +6,7 @@ mod condensed;
 mod questions;
 mod replay;
 mod run;
+mod search;
 mod space;
 mod tables;
 mod used;

@@ -57,10 +57,10 @@ impl Space {
     pub fn next(&self, sector: u64) -> Option<Extent>
         ensures { Follows (free_in self.now) sector result }
     {
-        let next = self.by_start.lowest_from(sector)?;
+        let next = self.first_from(sector)?;
         Some(Extent {
-            start: next.key,
-            length: next.value,
+            start: next.start,
+            length: next.len,
         })
     }
 

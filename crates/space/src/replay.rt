@@ -61,9 +61,9 @@ impl Space {
     {
         let mut space = Space::new(size);
         for (place, word) in Words::of(store).enumerate() {
-            if let Err(fault) = space.take_word(word) {
-                return Err(Stop { fault, place });
-            }
+            space
+                .take_word(word)
+                .map_err(|fault| Stop { fault, place })?;
         }
         Ok(space)
     }

@@ -12,6 +12,15 @@ pub(crate) struct SectorRun {
     ghost sums: { start + len < 2 ^ 64 },
 }
 
+impl SectorRun {
+    // The sector behind the last one.
+    pub(crate) fn end(self) -> u64
+        ensures { result ≡ self.start + self.len }
+    {
+        self.start + self.len
+    }
+}
+
 impl From<Extent> for SectorRun {
     ghost from_gives = { λ extent run. (run.start ≡ extent.start) × (run.len ≡ extent.length) };
 

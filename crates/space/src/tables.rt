@@ -12,11 +12,12 @@ use table::LengthKey;
 
 impl Space {
     // Takes a free extent out.
-    pub(crate) fn take_out(&mut self, start: u64, len: u64)
-        requires { in_list start len (starts self.old.by_start) ≡ true }
-        ensures moved { Moved self.old self.new (grant (free_in self.old) start len) }
+    pub(crate) fn take_out(&mut self, run: SectorRun)
+        requires { in_list run.start run.len (starts self.old.by_start) ≡ true }
+        ensures moved { Moved self.old self.new (grant (free_in self.old) run.start run.len) }
         ensures fewer { length (starts self.new.by_start) + 1 ≡ length (starts self.old.by_start) }
     {
+        let SectorRun { start, len } = run;
         let _ = self.by_start.remove(start);
         let _ = self.by_length.remove(LengthKey { len, start });
         self.free -= len;
@@ -36,7 +37,8 @@ impl Space {
         self.free += len;
     }
 
-    // Puts an extent in, unless it is empty. This and `take_end` owe opposite facts: one function over a closure would need both.
+    // Puts an extent in, unless it is empty, which no run of sectors is. This and `take_end` owe opposite facts: one function
+    // over a closure would need both.
     pub(crate) fn put_end(&mut self, start: u64, len: u64)
         requires within { start + len ≤ sectors_of self.old }
         requires clear { 1 ≤ len → Clear (free_in self.old) start len }
@@ -56,7 +58,7 @@ impl Space {
         ensures fewer { length (starts self.new.by_start) + min len 1 ≡ length (starts self.old.by_start) }
     {
         if len > 0 {
-            self.take_out(start, len);
+            self.take_out(SectorRun { start, len });
         }
     }
 }

@@ -25,9 +25,7 @@ pub(crate) fn capacity_of(area: &[u8]) -> usize
 pub(crate) fn word_of(area: &[u8], i: usize) -> Result<u64, Refusal>
     ensures { Reads (words_of area.now) i result }
 {
-    let Ok(header) = check(area) else {
-        return Err(Refusal::NoWord);
-    };
+    let header = check(area).map_err(|_| Refusal::NoWord)?;
     if i >= header.count as usize {
         return Err(Refusal::NoWord);
     }
@@ -59,9 +57,7 @@ pub(crate) fn add_to(area: &mut [u8], w: u64) -> Result<(), Refusal>
     ensures adds { Adds (capacity_of area.old) (words_of area.old) (words_of area.new) w result }
     ensures changes { AddChanges area.old area.new result }
 {
-    let Ok(header) = check(area) else {
-        return Err(Refusal::StoreFull);
-    };
+    let header = check(area).map_err(|_| Refusal::StoreFull)?;
     if header.count == header.capacity {
         return Err(Refusal::StoreFull);
     }

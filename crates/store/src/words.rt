@@ -8,7 +8,7 @@ use crate::log_store::LogStore;
 #[derive(Drop)]
 pub struct Words<'a, S: LogStore> {
     store: &'a S,
-    // How many words have been given.
+    // How many words have been given. This count is all that `next` changes: a range of places would count the same.
     given: usize,
 }
 

@@ -7,22 +7,12 @@ use Rattle.space.proofs.Spaces.{spaced_in, lies_in, few_in}
 use Rattle.space.proofs.Cutting.{front_clear, back_clear, cut_is}
 use Rattle.space.proofs.space.Space.cut.Goals as goal
 
-pub overflow_add-end : goal.overflow_add-end
-overflow_add-end c =
-    let now = c.args.self.now in
-    omega (arith, c.requires.held.2, (lies_in now _ _ c.requires.held.0).within, now.size.most)
-
-pub overflow_add-holder_end : goal.overflow_add-holder_end
-overflow_add-holder_end c =
-    let now = c.args.self.now in
-    omega (arith, (lies_in now _ _ c.requires.held.0).within, now.size.most)
-
 pub put_end-requires : goal.put_end-requires
 put_end-requires c =
     let now = c.args.self.now in
-    let k = c.args.holder.key in
+    let k = c.args.holder.start in
     let held = c.requires.held in
-    let clear = front_clear _ _ (spaced_in now) k c.args.holder.value held.0 c.args.run.start c.args.run.len c.args.run.some held.1 held.2 in
+    let clear = front_clear _ _ (spaced_in now) k c.args.holder.len held.0 c.args.run.start c.args.run.len c.args.run.some held.1 held.2 in
     record {
       within = omega (arith, (lies_in now _ _ held.0).within, ap (λ z. z.sectors) c.take_out.ensures.moved.size, held.1, held.2);
       clear = λ one. subst (λ f. Clear f k (c.args.run.start - k)) (sym c.take_out.ensures.moved.sectors) (clear one);
@@ -32,30 +22,30 @@ put_end-requires c =
 pub put_end-requires-2 : goal.put_end-requires-2
 put_end-requires-2 c =
     let now = c.args.self.now in
-    let k = c.args.holder.key in
+    let k = c.args.holder.start in
     let end = c.args.run.start + c.args.run.len in
     let held = c.requires.held in
-    let clear = back_clear _ _ (spaced_in now) k c.args.holder.value held.0 c.args.run.start c.args.run.len c.args.run.some held.1 held.2 in
+    let clear = back_clear _ _ (spaced_in now) k c.args.holder.len held.0 c.args.run.start c.args.run.len c.args.run.some held.1 held.2 in
     let sectors = c.put_end.ensures.moved.sectors ∙ ap (λ f. give_back f k (c.args.run.start - k)) c.take_out.ensures.moved.sectors in
-    record {
+    rw (c.end-end.ensures, c.end.ensures) (record {
       within =
           omega (arith, (lies_in now _ _ held.0).within, held.2, ap (λ z. z.sectors) c.take_out.ensures.moved.size, ap (λ z. z.sectors) c.put_end.ensures.moved.size);
-      clear = λ one. subst (λ f. Clear f end ((k + c.args.holder.value) - end)) (sym sectors) (clear one);
+      clear = λ one. subst (λ f. Clear f end ((k + c.args.holder.len) - end)) (sym sectors) (clear one);
       few = λ one. elim (cases_lt k c.args.run.start) [
         | inl l ↦ omega (arith, c.put_end.ensures.more, c.take_out.ensures.fewer, c.requires.room l (omega arith))
         | inr l ↦ omega (arith, c.put_end.ensures.more, c.take_out.ensures.fewer, few_in now)
       ];
-    }
+    })
 
 pub returns : goal.returns
 returns c =
     let now = c.args.self.now in
-    let k = c.args.holder.key in
+    let k = c.args.holder.start in
     let end = c.args.run.start + c.args.run.len in
     let held = c.requires.held in
-    let is = cut_is _ _ (spaced_in now) k c.args.holder.value held.0 c.args.run.start c.args.run.len c.args.run.some held.1 held.2 in
+    let is = cut_is _ _ (spaced_in now) k c.args.holder.len held.0 c.args.run.start c.args.run.len c.args.run.some held.1 held.2 in
     let sectors = c.put_end.ensures.moved.sectors ∙ ap (λ f. give_back f k (c.args.run.start - k)) c.take_out.ensures.moved.sectors in
     record {
-      sectors = c.put_end-2.ensures.moved.sectors ∙ (ap (λ f. give_back f end ((k + c.args.holder.value) - end)) sectors ∙ is);
+      sectors = rw (c.end-end.ensures, c.end.ensures) at c.put_end-2.ensures.moved.sectors ∙ (ap (λ f. give_back f end ((k + c.args.holder.len) - end)) sectors ∙ is);
       size = c.put_end-2.ensures.moved.size ∙ (c.put_end.ensures.moved.size ∙ c.take_out.ensures.moved.size);
     }

@@ -1,21 +1,20 @@
--- The first pair of the table of starts from the sector on is the next extent.
-use Rattle.std.proofs.Common.{sym, ◌∙◌}
-use Rattle.space.proofs.Searched.{next_none}
-use Rattle.space.proofs.Asked.{run_in, listed_in, sized, next_in}
+-- The first free extent from the sector on is the next one.
+use Rattle.space.proofs.Asked.{run_in, listed_in, sized}
 use Rattle.space.proofs.space.Space.next.Goals as goal
 
 pub invariant_of-result : goal.invariant_of-result
 invariant_of-result c =
-    let now = c.args.self.now in
-    let n = next_in now _ _ c.in_ok-next.next c.lowest_from.ensures c.in_ok-next.was in
-    let z = sized now _ _ n.listed in
+    let found = rw (c.in_ok-next.was) at c.first_from.ensures in
+    let z = sized c.args.self.now _ _ found.listed in
     record { some = z.some; ends = z.ends }
 
 pub returns-in_err-next : goal.returns-in_err-next
-returns-in_err-next c = rw (c.from_residual.ensures) (λ s l r. next_none _ _ (sym c.lowest_from.ensures ∙ c.in_err-next.was) s l (listed_in c.args.self.now s l r))
+returns-in_err-next c =
+    let none = rw (c.in_err-next.was) at c.first_from.ensures in
+    rw (c.from_residual.ensures) (λ s l r. none s l (listed_in c.args.self.now s l r))
 
 pub returns : goal.returns
 returns c =
     let now = c.args.self.now in
-    let n = next_in now _ _ c.in_ok-next.next c.lowest_from.ensures c.in_ok-next.was in
-    (run_in now _ _ n.listed, n.from, λ s l r w. n.lowest s l (listed_in now s l r) w)
+    let found = rw (c.in_ok-next.was) at c.first_from.ensures in
+    (run_in now _ _ found.listed, found.from, λ s l r w. found.lowest s l (listed_in now s l r) w)

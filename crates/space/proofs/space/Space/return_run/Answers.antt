@@ -15,24 +15,27 @@ use Rattle.space.proofs.space.Space.return_run.Goals as goal
 pub returns-then-alone-len : goal.returns-then-alone-len
 returns-then-alone-len c =
     let now = c.args.self.now in
+    let fits = rw (c.end-end.ensures) at c.if-end-self.false in
+    let right = rw (c.end-end.ensures) at c.right_edge-last.ensures in
     let none = sym c.if-reaches.ensures in
     let full =
-    full_alone c.left_edge-first.result c.args.run.start c.right_edge-last.result (c.args.run.start + c.args.run.len) c.len.result c.if-alone-len.true in
+    full_alone c.left_edge-first.result c.args.run.start c.right_edge-last.result (c.args.run.start + c.args.run.len) c.len.result (rw (c.end-end.ensures) at c.if-alone-len.true) in
     let more =
-    joined_count _ _ (spaced_in now) c.args.run.start c.args.run.len _ _ c.args.run.some c.if-end-self.false none c.left_edge-first.ensures c.right_edge-last.ensures in
+    joined_count _ _ (spaced_in now) c.args.run.start c.args.run.len _ _ c.args.run.some fits none c.left_edge-first.ensures right in
     let many : most_extents < runs (give_back (free_in now) c.args.run.start c.args.run.len) (sectors_of now) =
     omega (arith, more, full.0, full.1, full.2, c.len.ensures.counts) in
-    (returned_crowded (sectors_of now) (free_in now) c.args.run.start c.args.run.len c.if-end-self.false none many, refl)
+    (returned_crowded (sectors_of now) (free_in now) c.args.run.start c.args.run.len fits none many, refl)
 
 pub take_end-requires-2 : goal.take_end-requires-2
-take_end-requires-2 c one =
+take_end-requires-2 c =
     let now = c.args.self.now in
+    let fits = rw (c.end-end.ensures) at c.if-end-self.false in
+    let right = rw (c.end-end.ensures) at c.right_edge-last.ensures in
     let end = c.args.run.start + c.args.run.len in
     let long = c.right_edge-last.result - end in
     let stays =
-    right_stays _ _ (spaced_in now) c.args.run.start c.args.run.len _ _ c.args.run.some c.if-end-self.false (sym c.if-reaches.ensures) c.left_edge-first.ensures c.right_edge-last.ensures
-    (omega arith) in
-    listed_run 0 _ _ (spaced_in c.take_end.new.self) end long (subst (λ f. Run f end long) (sym c.take_end.ensures.moved.sectors) stays)
+    right_stays _ _ (spaced_in now) c.args.run.start c.args.run.len _ _ c.args.run.some fits (sym c.if-reaches.ensures) c.left_edge-first.ensures right in
+    rw (c.end-end.ensures) (λ one. listed_run 0 _ _ (spaced_in c.take_end.new.self) end long (subst (λ f. Run f end long) (sym c.take_end.ensures.moved.sectors) (stays (omega arith))))
 
 pub put_in-requires : goal.put_in-requires
 put_in-requires c =
@@ -42,21 +45,22 @@ put_in-requires c =
     let first = c.left_edge-first.result in
     let last = c.right_edge-last.result in
     let left = c.left_edge-first.ensures in
-    let right = c.right_edge-last.ensures in
+    let fits = rw (c.end-end.ensures) at c.if-end-self.false in
+    let right = rw (c.end-end.ensures) at c.right_edge-last.ensures in
     let low = left.low in
     let high = right.high in
     let clear =
-    joined_clear _ _ (spaced_in now) start c.args.run.len _ _ c.args.run.some c.if-end-self.false (sym c.if-reaches.ensures) left right in
-    let sectors = c.take_end-2.ensures.moved.sectors ∙ ap (λ f. grant f end (last - end)) c.take_end.ensures.moved.sectors in
+    joined_clear _ _ (spaced_in now) start c.args.run.len _ _ c.args.run.some fits (sym c.if-reaches.ensures) left right in
+    let sectors = rw (c.end-end.ensures) at c.take_end-2.ensures.moved.sectors ∙ ap (λ f. grant f end (last - end)) c.take_end.ensures.moved.sectors in
     let fewer = c.take_end.ensures.fewer in
-    let fewer-2 = c.take_end-2.ensures.fewer in
+    let fewer-2 = rw (c.end-end.ensures) at c.take_end-2.ensures.fewer in
     let most = few_in now in
     let within : last ≤ sectors_of now =
-    elim (cases_lt end last) [ inl l ↦ omega (arith, (lies_in now _ _ (right.listed l)).within) | inr l ↦ omega (arith, c.if-end-self.false) ] in
+    elim (cases_lt end last) [ inl l ↦ omega (arith, (lies_in now _ _ (right.listed l)).within) | inr l ↦ omega (arith, fits) ] in
     record {
       within = omega (arith, ap (λ z. z.sectors) c.take_end.ensures.moved.size, ap (λ z. z.sectors) c.take_end-2.ensures.moved.size);
       clear = subst (λ f. Clear f first (last - first)) (sym sectors) clear;
-      few = omega (arith, room_left first start last end c.len.result c.if-alone-len.false, c.len.ensures.counts);
+      few = omega (arith, room_left first start last end c.len.result (rw (c.end-end.ensures) at c.if-alone-len.false), c.len.ensures.counts);
     }
 
 pub returns : goal.returns
@@ -67,12 +71,14 @@ returns c =
     let first = c.left_edge-first.result in
     let last = c.right_edge-last.result in
     let none = sym c.if-reaches.ensures in
+    let fits = rw (c.end-end.ensures) at c.if-end-self.false in
+    let right = rw (c.end-end.ensures) at c.right_edge-last.ensures in
     let is =
-    joined_is _ _ (spaced_in now) start c.args.run.len _ _ c.args.run.some c.if-end-self.false none c.left_edge-first.ensures c.right_edge-last.ensures in
-    let emptied = c.take_end-2.ensures.moved.sectors ∙ ap (λ f. grant f end (last - end)) c.take_end.ensures.moved.sectors in
+    joined_is _ _ (spaced_in now) start c.args.run.len _ _ c.args.run.some fits none c.left_edge-first.ensures right in
+    let emptied = rw (c.end-end.ensures) at c.take_end-2.ensures.moved.sectors ∙ ap (λ f. grant f end (last - end)) c.take_end.ensures.moved.sectors in
     let moved : Moved now c.put_in.new.self (give_back (free_in now) start c.args.run.len) =
     record {
       sectors = c.put_in.ensures.moved.sectors ∙ (ap (λ f. give_back f first (last - first)) emptied ∙ is);
       size = c.put_in.ensures.moved.size ∙ (c.take_end-2.ensures.moved.size ∙ c.take_end.ensures.moved.size);
     } in
-    (returned (sectors_of now) (free_in now) start c.args.run.len c.if-end-self.false none (runs_moved now _ _ moved) ∙ ap Ok (sym moved.sectors), moved.size)
+    (returned (sectors_of now) (free_in now) start c.args.run.len fits none (runs_moved now _ _ moved) ∙ ap Ok (sym moved.sectors), moved.size)
