@@ -1,16 +1,19 @@
 -- Views with equal parts are equal; what is shown of a running slab holds of a slab that no fault has stopped.
 use Rattle.std.proofs.Common.{◌≡◌, ℕ, List, Some, None, Ok, Err, Option, Result, sym, refl}
+use Rattle.std.proofs.Common.{Bor}
+use Rattle.std.specs.Prelude.{MatchOption}
+use Rattle.std.specs.Result.{result_ok, result_copied}
 use Rattle.slab_log.specs.Sectors.{Sectors}
 use Rattle.slab_log.specs.declared.size.Size.{Size}
 use Rattle.slab_log.specs.declared.extent.Extent.{Extent}
 use Rattle.slab_log.specs.declared.fault.Stop.{Stop}
 use Rattle.store.specs.declared.log_store.LogStore.{Ghosts}
-use Rattle.space.specs.Free.{Follows as Follows-in}
+use Rattle.space.specs.Free.{free_in, Follows as Follows-in}
 use Rattle.space.specs.declared.space.Space.{Space}
 use Rattle.disk_slab.specs.Loaded.{Sized}
 use Rattle.disk_slab.specs.View.{View, Running, running_view, stopped_view, running, seen}
 use Rattle.disk_slab.specs.Answers.{Follows}
-use Rattle.disk_slab.specs.Answers.Follows.{nothing, lowest}
+use Rattle.disk_slab.specs.Answers.Follows.{stopped, nothing, lowest}
 
 pub same_running : {size size' capacity capacity' : ℕ} {words words' : List ℕ} {free free' : Sectors} →
     size ≡ size' → capacity ≡ capacity' → words ≡ words' → free ≡ free' →
@@ -29,3 +32,13 @@ module _ {S : Type 0} (G : Ghosts S) (size : Size) (loaded : Result Space Stop) 
 pub followed : (v : View) → Running v → (sector : ℕ) (r : Option Extent) → Follows-in v.free sector r → Follows v sector r
 followed v on sector None none = nothing on none
 followed v on sector (Some e) (run, from, lowest-one) = lowest on run from lowest-one
+
+-- so the space that is lent, where there is one, says what follows in a slab
+pub followed_lent : {S : Type 0} (G : Ghosts S) (size : Size) (loaded : Result Space Stop) (store : S) → Sized size loaded →
+    (lent : Result (Bor Space) (Bor Stop)) → result_copied lent ≡ loaded → (o : Option (Bor Space)) → o ≡ result_ok lent → (sector : ℕ) (r : Option Extent) →
+    MatchOption o (r ≡ None) (λ x. Follows-in (free_in x.now) sector r) → Follows (seen G size loaded store) sector r
+followed_lent G size loaded store sized (Ok x) is o got sector r given =
+    rw (seen_running G size loaded store x.now (sym is) sized) (followed (running G x.now store) refl sector r (rw got at given))
+followed_lent G size loaded store sized (Err e) is o got sector r given =
+    let none : r ≡ None = rw got at given in
+    rw (seen_stopped G size loaded store e.now (sym is), none) (stopped refl)

@@ -65,10 +65,7 @@ impl<S: LogStore> Live<S> {
     pub fn next(&self, sector: u64) -> Option<Extent>
         ensures { Follows (view S.LogStore self.now) sector result }
     {
-        match &self.space {
-            Ok(space) => space.next(sector),
-            Err(_) => None,
-        }
+        self.space.as_ref().ok()?.next(sector)
     }
 
     // The fault that stopped the slab.

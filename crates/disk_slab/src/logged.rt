@@ -1,5 +1,5 @@
-// Changes of the free sectors together with the log that says them. The two are arguments: a struct that lends both would hold two
-// `&mut`, which the check does not cover.
+// Changes of the free sectors together with the log that says them. The two are arguments: of a struct that lends both, a clause
+// names what a call leaves by position alone (`self.exit.1.0.now`).
 ghost use Rattle.std.specs.Prelude.{◌≡◌};
 ghost use Rattle.disk_slab.specs.View.{running};
 ghost use Rattle.disk_slab.specs.Answers.{Allocates, after_allocate, Frees, after_free, Condenses, with_words};
@@ -23,9 +23,7 @@ pub(crate) fn grant<S: LogStore>(
     if want == 0 {
         return Err(Refusal::NoWant);
     }
-    let Some(fit) = space.best_fit(want) else {
-        return Err(Refusal::NoSpace);
-    };
+    let fit = space.best_fit(want).ok_or(Refusal::NoSpace)?;
     let extent = Extent {
         start: fit.start,
         length: want,
@@ -46,6 +44,8 @@ pub(crate) fn give_back<S: LogStore>(
     ensures answer { Frees (running S.LogStore space.old store.old) extent result }
     ensures leaves { running S.LogStore space.new store.new ≡ after_free (running S.LogStore space.old store.old) extent result }
 {
+    // Why there is no such number is asked here: as an error of `extents_after` it would be a fault of replay, of which all but
+    // two could not come.
     let Some(standing) = space.extents_after(extent) else {
         if extent.start + extent.length > space.size().sectors {
             return Err(Refusal::BeyondSlab);

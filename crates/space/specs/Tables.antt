@@ -1,11 +1,15 @@
 -- What the changes of a space's tables ask and leave.
-use Rattle.std.specs.Prelude.{◌≡◌, ℕ, ◌+◌, ◌-◌, ◌<◌, ◌≤◌, true, false, Some, None, Option}
+use Rattle.std.specs.Prelude.{◌≡◌, ℕ, ◌+◌, ◌-◌, ◌<◌, ◌≤◌, true, false, length, Some, None, Option}
 use Rattle.slab_log.specs.Sectors.{Sectors, used, meets, begins}
 use Rattle.table.specs.Table.{pairs}
 use Rattle.space.specs.Extents.{Starts, free_of, in_list}
 use Rattle.space.specs.Free.{sectors_of, free_in}
 use Rattle.space.specs.declared.run.SectorRun.{SectorRun}
 use Rattle.space.specs.declared.space.Space.{Space}
+
+-- one free extent more has a place
+abbrev pub HasPlace : Space → Type 0
+HasPlace space = length (pairs space.by_start) < 1024
 
 -- no sector of an extent is free, nor one beside it
 abbrev pub Clear : Sectors → ℕ → ℕ → Type 0

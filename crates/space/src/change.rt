@@ -4,7 +4,7 @@ ghost use Rattle.slab_log.specs.Sectors.{meets};
 ghost use Rattle.slab_log.specs.Replay.{grant, granting, returning};
 ghost use Rattle.table.specs.Table.{pairs as starts};
 ghost use Rattle.space.specs.Free.{sectors_of, free_in, Changes};
-ghost use Rattle.space.specs.Tables.{Moved, Holds, LeftEdge, RightEdge};
+ghost use Rattle.space.specs.Tables.{HasPlace, Moved, Holds, LeftEdge, RightEdge};
 
 use crate::run::SectorRun;
 use crate::space::Space;
@@ -56,7 +56,7 @@ impl Space {
     // Grants a run of a free extent.
     fn cut(&mut self, holder: SectorRun, run: SectorRun)
         requires held { Holds self.old run.start run.len (Some holder) }
-        requires room { holder.start < run.start → run.start + run.len < holder.start + holder.len → length (starts self.old.by_start) < 1024 }
+        requires room { holder.start < run.start → run.start + run.len < holder.start + holder.len → HasPlace self.old }
         ensures { Moved self.old self.new (grant (free_in self.old) run.start run.len) }
     {
         let end = run.end();

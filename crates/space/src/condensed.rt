@@ -12,7 +12,8 @@ impl Space {
     pub fn condensed_len(&self) -> usize
         ensures { (condensed : List ℕ) → Condensed (sectors_of self.now) (free_in self.now) condensed → result ≡ length condensed }
     {
-        // A loop and no `sum`: each addition owes that it fits, which the invariant says of this place.
+        // A loop and no `sum`: that owes a bound on each list that the iterator may give, and its proof is an induction over
+        // the calls of an adapter, where the loop's invariant says the same of one place.
         let mut words = 0;
         for extent in self.used_runs() {
             words += extent.entries();

@@ -4,7 +4,7 @@ ghost use Rattle.slab_log.specs.Replay.{grant, give_back};
 ghost use Rattle.table.specs.Table.{pairs as starts};
 ghost use Rattle.space.specs.Extents.{in_list};
 ghost use Rattle.space.specs.Free.{free_in, sectors_of};
-ghost use Rattle.space.specs.Tables.{Clear, Moved};
+ghost use Rattle.space.specs.Tables.{HasPlace, Clear, Moved};
 
 use crate::run::SectorRun;
 use crate::space::Space;
@@ -27,7 +27,7 @@ impl Space {
     pub(crate) fn put_in(&mut self, run: SectorRun)
         requires within { run.start + run.len ≤ sectors_of self.old }
         requires clear { Clear (free_in self.old) run.start run.len }
-        requires few { length (starts self.old.by_start) < 1024 }
+        requires few { HasPlace self.old }
         ensures moved { Moved self.old self.new (give_back (free_in self.old) run.start run.len) }
         ensures more { length (starts self.new.by_start) ≡ length (starts self.old.by_start) + 1 }
     {
@@ -42,7 +42,7 @@ impl Space {
     pub(crate) fn put_end(&mut self, start: u64, len: u64)
         requires within { start + len ≤ sectors_of self.old }
         requires clear { 1 ≤ len → Clear (free_in self.old) start len }
-        requires few { 1 ≤ len → length (starts self.old.by_start) < 1024 }
+        requires few { 1 ≤ len → HasPlace self.old }
         ensures moved { Moved self.old self.new (give_back (free_in self.old) start len) }
         ensures more { length (starts self.new.by_start) ≡ length (starts self.old.by_start) + min len 1 }
     {
