@@ -1,5 +1,6 @@
 -- The longest runs of free sectors of a space, as extents of its two tables.
 use Rattle.std.proofs.Common.{◌≡◌, ℕ, ◌+◌, ◌≤◌, true, ltb, Some, None, Option, sym, refl, ◌∙◌, inl, inr, arith}
+use Rattle.std.specs.Prelude.{MatchOption}
 use Rattle.slab_log.specs.Limits.{most_sectors}
 use Rattle.slab_log.specs.Sectors.{Run}
 use Rattle.table.specs.declared.node.Entry.{Entry}
@@ -43,17 +44,16 @@ module _ (space : Space) where
       Best (lengths space.by_length) want e.key
   best_in want r e found is = best_some want _ e (lengths_ordered space) (sym found ∙ is)
 
-  pub longest_in : (r : Option (Entry LengthKey (Unit {0}))) (e : Entry LengthKey (Unit {0})) → r ≡ last (lengths space.by_length) → r ≡ Some e → Longest (free_in space) e.key.len
-  longest_in r e found is =
-      let k = longest_some _ e (lengths_ordered space) (sym found ∙ is) in
-      record {
+  pub longest_is : (r : Option (Entry LengthKey (Unit {0}))) → r ≡ last (lengths space.by_length) → (len : ℕ) →
+      MatchOption r (len ≡ 0) (λ e. len ≡ e.key.len) → Longest (free_in space) len
+  longest_is None found len is =
+      rw is (record {
+        most = λ s l run. absurd (longest_none _ (sym found) (span s l) (keyed_in s l run));
+        there = inl refl;
+      })
+  longest_is (Some e) found len is =
+      let k = longest_some _ e (lengths_ordered space) (sym found) in
+      rw is (record {
         most = λ s l run. k.most s l (keyed_in s l run);
         there = inr (e.key.start, run_in _ _ (listed_key e.key k.listed));
-      }
-
-  pub nothing_in : (r : Option (Entry LengthKey (Unit {0}))) → r ≡ last (lengths space.by_length) → r ≡ None → Longest (free_in space) 0
-  nothing_in r found is =
-      record {
-        most = λ s l run. absurd (longest_none _ (sym found ∙ is) (span s l) (keyed_in s l run));
-        there = inl refl;
-      }
+      })

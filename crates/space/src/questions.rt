@@ -29,14 +29,11 @@ impl Space {
         self.by_start.len()
     }
 
-    // The length of the longest free extent, 0 if there is none. A match: with `map_or` the search for a proof finds none.
+    // The length of the longest free extent, 0 if there is none.
     pub fn longest(&self) -> u64
         ensures { Longest (free_in self.now) result }
     {
-        match self.by_length.last() {
-            None => 0,
-            Some(e) => e.key.len,
-        }
+        self.by_length.last().map_or(0, |longest| longest.key.len)
     }
 
     // The shortest free extent with at least so many sectors, and of equally short ones the lowest.
