@@ -29,7 +29,8 @@ pub trait LogStore {
     fn word(&self, i: usize) -> Result<u64, Refusal>
         ensures { Reads (words self.now) i result };
 
-    // Adds the word at the end, where there is a place.
+    // Adds the word at the end, where there is a place. That the capacity stays ties two moments of a lent store, which no type
+    // can, so each call that adds says it.
     fn add(&mut self, w: u64) -> Result<(), Refusal>
         ensures kept { capacity self.new ≡ capacity self.old }
         ensures adds { Adds (capacity self.old) (words self.old) (words self.new) w result };
