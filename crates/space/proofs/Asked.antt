@@ -1,5 +1,5 @@
 -- The longest runs of free sectors of a space, as extents of its two tables.
-use Rattle.std.proofs.Common.{◌≡◌, ℕ, ◌+◌, ◌≤◌, true, ltb, Some, None, Option, sym, refl, ◌∙◌, inl, inr, arith}
+use Rattle.std.proofs.Common.{◌≡◌, ℕ, ◌+◌, ◌≤◌, true, Some, None, Option, sym, refl, ◌∙◌, inl, inr, arith}
 use Rattle.std.specs.Prelude.{MatchOption}
 use Rattle.slab_log.specs.Limits.{most_sectors}
 use Rattle.slab_log.specs.Sectors.{Run}

@@ -1,13 +1,13 @@
 -- The free extents that lie beside a sector.
-use Rattle.std.proofs.Common.{◌≡◌, ℕ, ◌+◌, ◌-◌, ◌≤◌, Bool, true, false, cond, ltb, [], ◌∷◌, Some, None, Option, ◌==◌, sym, refl, ap, ◌∙◌, subst, inl, inr, arith}
-use Rattle.std.proofs.lemmas.Bool.{both_ways, cases_Bool, cases_eq, or_left, or_right, and_from, eq-eqb, cases_lt}
+use Rattle.std.proofs.Common.{◌≡◌, ℕ, ◌+◌, ◌-◌, ◌≤◌, Bool, true, false, Some, None, Option, ◌==◌, sym, refl, ap, ◌∙◌, subst, inl, inr, arith}
+use Rattle.std.proofs.lemmas.Bool.{both_ways, cases_Bool, cases_eq, cases_lt}
 use Rattle.std.proofs.lemmas.Bool.Decides.{nat_tests}
 use Rattle.std.specs.Prelude.{MatchOption}
 use Rattle.std.specs.Bool.{then_some}
 use Rattle.space.specs.Extents.{Starts, free_of, Spaced, in_list}
 use Rattle.space.specs.declared.run.SectorRun.{SectorRun}
 use Rattle.space.specs.Tables.{Previous, LastBefore, Next, FirstFrom, LeftEdge, RightEdge}
-use Rattle.space.proofs.Spaced.{first_or_rest, lies, filled, holder}
+use Rattle.space.proofs.Spaced.{lies, filled, holder}
 use Rattle.space.proofs.Cutting.{past_previous, before_all}
 
 module _ (size : ℕ) (es : Starts) (h : Spaced 0 size es) where

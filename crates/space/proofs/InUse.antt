@@ -1,5 +1,5 @@
 -- The runs of used sectors, between the free extents.
-use Rattle.std.proofs.Common.{◌≡◌, ℕ, zero, suc, ◌+◌, ◌-◌, ◌<◌, ◌≤◌, Bool, true, false, ltb, leb, not, ◌&&◌, ◌⊎◌, Option, None, Some, sym, refl, ap, ◌∙◌, inl, inr, arith}
+use Rattle.std.proofs.Common.{◌≡◌, ℕ, zero, suc, ◌+◌, ◌-◌, ◌<◌, ◌≤◌, Bool, true, false, ltb, leb, not, ◌&&◌, Option, None, Some, sym, refl, ap, ◌∙◌, inl, inr, arith}
 use Rattle.std.proofs.lemmas.Bool.{cases_Bool, cases_lt, both_ways, ltb-true, ltb-false, leb-true, leb-false}
 use Rattle.std.proofs.lemmas.Bool.Decides.{nat_tests}
 use Rattle.std.specs.Prelude.{MatchOption}
@@ -128,21 +128,21 @@ module _ (size : ℕ) (es : Starts) (h : Spaced 0 size es) where
   further sector one off (Some e) end n is = rw is (after_next sector e one off n)
 
   -- so the last free extent before the sector, where it reaches the sector, or else the first from there on says where a run begins
-  pub free_to_is : (sector : ℕ) → 1 ≤ sector → (o kept found : Option SectorRun) (end : Option ℕ) → LastBefore es sector o →
+  pub free_to_is : (sector : ℕ) → 1 ≤ sector → (o kept from found : Option SectorRun) (end : Option ℕ) → LastBefore es sector o → FirstFrom es sector from →
       MatchOption o (kept ≡ None) (λ e. kept ≡ then_some (leb sector (e.start + e.len)) e) →
-      MatchOption kept (FirstFrom es sector found) (λ e. found ≡ Some e) →
+      MatchOption kept (found ≡ from) (λ e. found ≡ Some e) →
       MatchOption found (end ≡ None) (λ e. end ≡ Some (e.start + e.len)) → FreeTo inuse size sector end
-  free_to_is sector one None kept found end none k f is =
-      further sector one (before_all size es h sector none (sector - 1) (omega arith)) found end (rw k at f) is
-  free_to_is sector one (Some e) kept found end p k f is = go (leb sector (e.start + e.len)) refl (rw k at f)
+  free_to_is sector one None kept from found end none n k f is =
+      further sector one (before_all size es h sector none (sector - 1) (omega arith)) from end n (rw (rw k at f) at is)
+  free_to_is sector one (Some e) kept from found end p n k f is = go (leb sector (e.start + e.len)) refl (rw k at f)
     where
-      go : (b : Bool) → leb sector (e.start + e.len) ≡ b → MatchOption (then_some b e) (FirstFrom es sector found) (λ x. found ≡ Some x) → FreeTo inuse size sector end
+      go : (b : Bool) → leb sector (e.start + e.len) ≡ b → MatchOption (then_some b e) (found ≡ from) (λ x. found ≡ Some x) → FreeTo inuse size sector end
       go true t f =
           let ends : end ≡ Some (e.start + e.len) = rw f at is in
           let before = p.before in
           rw ends (behind_free sector e.start e.len p.listed (leb-true _ _ t) (λ s a b. absurd (omega arith)))
       go false t f =
-          further sector one (past_previous size es h sector e p (sector - 1) (let short = leb-false _ _ t in omega arith) (omega arith)) found end f is
+          further sector one (past_previous size es h sector e p (sector - 1) (let short = leb-false _ _ t in omega arith) (omega arith)) from end n (rw f at is)
 
   -- and the run begins there, where the slab has not ended
   pub starts_is : (sector : ℕ) (o kept : Option ℕ) → FreeTo inuse size sector o → MatchOption o (kept ≡ None) (λ n. kept ≡ then_some (ltb n size) n) →

@@ -1,7 +1,7 @@
 -- A run of sectors made free: it grows together with the free extents beside it.
-use Rattle.std.proofs.Common.{◌≡◌, ℕ, ◌+◌, ◌-◌, ◌<◌, ◌≤◌, min, Bool, true, false, ltb, Option, None, Some, length, sym, ap, ◌∙◌, subst, inl, inr, arith}
+use Rattle.std.proofs.Common.{◌≡◌, ℕ, ◌+◌, ◌-◌, ◌<◌, ◌≤◌, min, Bool, ◌||◌, true, false, ltb, Option, None, Some, length, sym, refl, ap, ◌∙◌, subst, inl, inr, arith}
 use mathlib.Core.Path.{fun_ext}
-use Rattle.std.proofs.lemmas.Bool.{cases_lt, lt-ltb, le-ltb}
+use Rattle.std.proofs.lemmas.Bool.{cases_lt, cases_Bool, both_ways, lt-ltb, le-ltb, ltb-true, ltb-false}
 use Rattle.std.proofs.lemmas.Bool.Decides.{nat_tests}
 use Rattle.std.specs.Prelude.{MatchOption}
 use Rattle.slab_log.specs.Sectors.{Sectors, Run, meets, runs}
@@ -10,7 +10,7 @@ use Rattle.slab_log.proofs.Steps.{none_meets, meets_none, to_T, to_not_T}
 use Rattle.table.specs.Pairs.{pair, without}
 use Rattle.space.specs.Extents.{Starts, free_of, Spaced, in_list}
 use Rattle.space.specs.declared.run.SectorRun.{SectorRun}
-use Rattle.space.specs.Tables.{Previous, LastBefore, Clear, LeftEdge, RightEdge}
+use Rattle.space.specs.Tables.{Previous, LastBefore, FirstFrom, Clear, LeftEdge, RightEdge}
 use Rattle.space.proofs.Spaced.{lies, filled, apart, listed_run}
 use Rattle.space.proofs.Changed.{with_extent, put_spaced, put_free, without_spaced, without_free, without_length}
 use Rattle.space.proofs.Counted.{runs_free}
@@ -61,6 +61,54 @@ module _ (size : ℕ) (es : Starts) (h : Spaced 0 size es) where
         | inl l ↦ is ∙ (lt-ltb _ _ l ∙ sym (reached start len e some p l))
         | inr l ↦ is ∙ (le-ltb _ _ l ∙ sym (unreached start len e p l))
       ]
+
+  -- the first free extent from the run's start, where it does not begin in the run, is the first from its end
+  begins_behind : (start len : ℕ) (f : Option SectorRun) → FirstFrom es start f → (y : Bool) → MatchOption f (y ≡ false) (λ e. y ≡ ltb e.start (start + len)) → y ≡ false →
+      (s l : ℕ) → in_list s l es ≡ true → s < start + len → s < start
+  begins_behind start len None none y is off s l i below = none s l i
+  begins_behind start len (Some e) n y is off s l i below =
+      elim (cases_lt s start) [
+        | inl k ↦ k
+        | inr k ↦ let low = n.lowest s l i k in let past = ltb-false e.start (start + len) (sym is ∙ off) in absurd (omega arith)
+      ]
+
+  last_to_end : (start len : ℕ) (b : Option SectorRun) → LastBefore es start b → ((s l : ℕ) → in_list s l es ≡ true → s < start + len → s < start) → LastBefore es (start + len) b
+  last_to_end start len None none behind = λ s l i.
+      elim (cases_lt s (start + len)) [ inl k ↦ let low = none s l i in let before = behind s l i k in absurd (omega arith) | inr k ↦ k ]
+  last_to_end start len (Some e) p behind =
+      let before = p.before in
+      record { listed = p.listed; before = omega arith; highest = λ s l i k. p.highest s l i (behind s l i k) }
+
+  first_from_end : (start len : ℕ) (f : Option SectorRun) → FirstFrom es start f → (y : Bool) → MatchOption f (y ≡ false) (λ e. y ≡ ltb e.start (start + len)) → y ≡ false →
+      FirstFrom es (start + len) f
+  first_from_end start len None none y is off = λ s l i. omega (arith, none s l i)
+  first_from_end start len (Some e) n y is off =
+      record { listed = n.listed; from = ltb-false e.start (start + len) (sym is ∙ off); lowest = λ s l i k. n.lowest s l i (omega arith) }
+
+  begins_in : (start len : ℕ) (f : Option SectorRun) → FirstFrom es start f → (y : Bool) → MatchOption f (y ≡ false) (λ e. y ≡ ltb e.start (start + len)) → y ≡ true →
+      meets (free_of es) start len ≡ true
+  begins_in start len None none y is on = absurd (both_ways y is on)
+  begins_in start len (Some e) n y is on =
+      let there = lies 0 size es h e.start e.len n.listed in
+      meets_some (free_of es) start len e.start n.from (ltb-true e.start (start + len) (sym is ∙ on))
+      (filled 0 size es h _ _ n.listed e.start (omega arith) (omega (arith, there.some)))
+
+  -- so the two extents beside the start of a run say what lies around the run
+  module _ (start len : ℕ) (some : 1 ≤ len) (b f : Option SectorRun) (before : LastBefore es start b) (from : FirstFrom es start f) (x y : Bool)
+      (x-is : MatchOption b (x ≡ false) (λ e. x ≡ ltb start (e.start + e.len))) (y-is : MatchOption f (y ≡ false) (λ e. y ≡ ltb e.start (start + len))) where
+    pub met_is : (x || y) ≡ meets (free_of es) start len
+    met_is = go y refl
+      where
+        go : (c : Bool) → y ≡ c → (x || c) ≡ meets (free_of es) start len
+        go true on = (grind arith) ∙ sym (begins_in start len f from y y-is on)
+        go false off = grind arith ∙ reaches_is start len some b (last_to_end start len b before (begins_behind start len f from y y-is off)) x x-is
+
+    pub behind_is : meets (free_of es) start len ≡ false → FirstFrom es (start + len) f
+    behind_is none =
+        elim (cases_Bool y) [
+          | inl on ↦ absurd (both_ways _ none (begins_in start len f from y y-is on))
+          | inr off ↦ first_from_end start len f from y y-is off
+        ]
 
   module _ (start len first last : ℕ) (some : 1 ≤ len) (fits : start + len ≤ size) (none : meets (free_of es) start len ≡ false)
       (left : LeftEdge es start first) (right : RightEdge es (start + len) last) where

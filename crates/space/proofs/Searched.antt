@@ -1,5 +1,5 @@
 -- What the searches of the two lists find: the next extent, the one before a sector, the best fit and the longest.
-use Rattle.std.proofs.Common.{◌≡◌, ℕ, ◌+◌, ◌<◌, ◌≤◌, Bool, true, false, cond, ltb, ◌⊎◌, List, [], ◌∷◌, Some, None, refl, ap, inl, inr, arith}
+use Rattle.std.proofs.Common.{◌≡◌, ℕ, ◌+◌, ◌<◌, ◌≤◌, Bool, true, false, cond, ltb, ◌⊎◌, List, [], ◌∷◌, Some, None, Option, sym, refl, ap, inl, inr, arith}
 use Rattle.std.proofs.lemmas.Bool.{both_ways, or_left, or_right, or_cases, and_from, eq-eqb, ltb-true, ltb-false}
 use Rattle.std.proofs.lemmas.Bool.Decides.{nat_tests}
 use Rattle.table.specs.declared.node.Entry.{Entry}
@@ -7,7 +7,9 @@ use Rattle.table.specs.declared.key.LengthKey.{LengthKey}
 use Rattle.table.specs.Pairs.{Each, Ordered, alike, has, under, from, first, last}
 use Rattle.table.specs.Order.{shorter}
 use Rattle.space.specs.Extents.{Starts, Lengths, Spaced, in_list, span}
-use Rattle.space.specs.Tables.{Previous, Next}
+use Rattle.std.specs.Prelude.{IfSome}
+use Rattle.space.specs.declared.run.SectorRun.{SectorRun}
+use Rattle.space.specs.Tables.{Previous, LastBefore, Next, FirstFrom, RunOf}
 use Rattle.space.proofs.Spaced.{first_or_rest, lies}
 
 -- a list's extents, as its first or one of the rest
@@ -109,6 +111,26 @@ previous_some low size sector (y ∷ ys) e h f = go (ltb y.key sector) refl f (p
               })
         ]
     go false t g ih = later (ih g)
+
+-- so the pairs that the table finds on the two sides of a sector are the free extents there
+module _ (size : ℕ) (es : Starts) (sector : ℕ) (h : Spaced 0 size es) where
+  pub some_before : (pair : Option (Entry ℕ ℕ)) → pair ≡ last (under ltb sector es) → IfSome pair (λ p. in_list p.key p.value es ≡ true)
+  some_before None found = tt
+  some_before (Some p) found = (previous_some 0 size sector es p h (sym found)).listed
+
+  pub some_from : (pair : Option (Entry ℕ ℕ)) → pair ≡ first (from ltb sector es) → IfSome pair (λ p. in_list p.key p.value es ≡ true)
+  some_from None found = tt
+  some_from (Some p) found = (next_some 0 size sector es p h (sym found)).listed
+
+  pub last_is : (pair : Option (Entry ℕ ℕ)) → pair ≡ last (under ltb sector es) → (run : Option SectorRun) → RunOf pair run → LastBefore es sector run
+  last_is None found run is = rw is (previous_none sector es (sym found))
+  last_is (Some p) found (Some run) is = rw (is.0, is.1) (previous_some 0 size sector es p h (sym found))
+  last_is (Some p) found None is = absurd is
+
+  pub first_is : (pair : Option (Entry ℕ ℕ)) → pair ≡ first (from ltb sector es) → (run : Option SectorRun) → RunOf pair run → FirstFrom es sector run
+  first_is None found run is = rw is (next_none sector es (sym found))
+  first_is (Some p) found (Some run) is = rw (is.0, is.1) (next_some 0 size sector es p h (sym found))
+  first_is (Some p) found None is = absurd is
 
 -- the keys of a list by length, as its first or one of the rest
 first_or_rest_key : (k : LengthKey) (y : Entry LengthKey Unit) (ys : Lengths) → has shorter k (y ∷ ys) ≡ true → (alike shorter k y.key ≡ true) ⊎ (has shorter k ys ≡ true)

@@ -1,6 +1,6 @@
 -- What the invariants of a space say of its two lists of extents.
 use mathlib.Core.Logic.{∥∥₁_elim}
-use Rattle.std.proofs.Common.{◌≡◌, ℕ, ◌+◌, ◌≤◌, true, ltb, [], ◌∷◌, length, Some, Option, sym, refl, ap, ◌∙◌, arith}
+use Rattle.std.proofs.Common.{◌≡◌, ℕ, ◌+◌, ◌≤◌, true, ltb, [], ◌∷◌, length, sym, refl, ap, ◌∙◌, arith}
 use native.Mathlib.Bridge.{le_prop}
 use Rattle.table.specs.Order.{shorter}
 use Rattle.slab_log.specs.Limits.{most_extents}

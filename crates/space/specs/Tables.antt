@@ -1,10 +1,12 @@
 -- What the changes of a space's tables ask and leave.
-use Rattle.std.specs.Prelude.{◌≡◌, ℕ, ◌+◌, ◌-◌, ◌<◌, ◌≤◌, true, false, length, Some, None, Option}
+use Rattle.std.specs.Prelude.{◌≡◌, ℕ, ◌+◌, ◌-◌, ◌<◌, ◌≤◌, true, false, length, Some, None, Option, MatchOption, IsSomeAnd}
 use Rattle.slab_log.specs.Sectors.{Sectors, used, meets, begins}
+use Rattle.table.specs.declared.node.Entry.{Entry}
 use Rattle.table.specs.Table.{pairs}
 use Rattle.space.specs.Extents.{Starts, free_of, in_list}
 use Rattle.space.specs.Free.{sectors_of, free_in}
 use Rattle.space.specs.declared.run.SectorRun.{SectorRun}
+use Rattle.space.specs.declared.search.Around.{Around}
 use Rattle.space.specs.declared.space.Space.{Space}
 
 -- one free extent more has a place
@@ -19,6 +21,10 @@ Clear free start len = (s : ℕ) → start ≤ s + 1 → s ≤ start + len → f
 pub record Moved (before after : Space) (free : Sectors) : Type 0 where
   pub sectors : free_in after ≡ free
   pub size : after.size ≡ before.size
+
+-- the extent of a pair of the table of starts, where there is one
+abbrev pub RunOf : Option (Entry ℕ ℕ) → Option SectorRun → Type 0
+RunOf pair run = MatchOption pair (run ≡ None) (λ p. IsSomeAnd run (λ r. (r.start ≡ p.key) × (r.len ≡ p.value)))
 
 -- of the extents that begin before a sector the last one
 pub record Previous (es : Starts) (sector start len : ℕ) : Type 0 where
@@ -59,6 +65,12 @@ pub record RightEdge (es : Starts) (end last : ℕ) : Type 0 where
   pub listed : end < last → in_list end (last - end) es ≡ true
   pub alone : (s : ℕ) → s + 1 ≡ end → free_of es s ≡ false → last ≡ end → free_of es end ≡ false
   pub alone_first : last ≡ end → end ≡ 0 → free_of es end ≡ false
+
+-- whether a run has a free sector, and the free extents beside it, of which the one behind it counts where it has none
+pub record Surrounds (es : Starts) (start len : ℕ) (around : Around) : Type 0 where
+  pub met : around.met ≡ meets (free_of es) start len
+  pub left : LeftEdge es start around.first
+  pub right : meets (free_of es) start len ≡ false → RightEdge es (start + len) around.last
 
 -- where the first longest run of the set that begins at or after a sector begins; the size, where it would begin behind the slab
 pub record UsedFrom (set : Sectors) (size sector start : ℕ) : Type 0 where

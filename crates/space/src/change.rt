@@ -1,12 +1,12 @@
 // Granting and giving back extents.
 ghost use Rattle.std.specs.Prelude.{◌≡◌, ◌+◌, ◌-◌, ◌^◌, ◌<◌, ◌≤◌, length, Some};
-ghost use Rattle.slab_log.specs.Sectors.{meets};
 ghost use Rattle.slab_log.specs.Replay.{grant, granting, returning};
 ghost use Rattle.table.specs.Table.{pairs as starts};
 ghost use Rattle.space.specs.Free.{sectors_of, free_in, Changes};
-ghost use Rattle.space.specs.Tables.{HasPlace, Moved, Holds, LeftEdge, RightEdge};
+ghost use Rattle.space.specs.Tables.{HasPlace, Moved, Holds};
 
 use crate::run::SectorRun;
+use crate::search::Around;
 use crate::space::Space;
 use slab_log::{Extent, Fault};
 
@@ -49,7 +49,8 @@ impl Space {
         requires { run.start + run.len ≤ sectors_of self.now }
         ensures { Holds self.now run.start run.len result }
     {
-        self.last_before(run.start + 1)
+        self.sides(run.start + 1)
+            .before
             .filter(|holder| run.end() <= holder.end())
     }
 
@@ -73,11 +74,10 @@ impl Space {
         if end > self.size.sectors {
             return Err(Fault::Bounds);
         }
-        if self.reaches(run) {
+        let Around { met, first, last } = self.around(run);
+        if met {
             return Err(Fault::Again);
         }
-        let first = self.left_edge(start);
-        let last = self.right_edge(end);
         let alone = (first == start) & (last == end);
         if alone & (self.by_start.len() >= MOST_EXTENTS) {
             return Err(Fault::Crowded);
@@ -89,31 +89,5 @@ impl Space {
             len: last - first,
         });
         Ok(())
-    }
-
-    // Whether a sector of a run is free.
-    pub(crate) fn reaches(&self, run: SectorRun) -> bool
-        ensures { result ≡ meets (free_in self.now) run.start run.len }
-    {
-        self.last_before(run.end())
-            .is_some_and(|free| run.start < free.end())
-    }
-
-    // Where the free extent begins that ends at a sector; the sector itself, if there is none.
-    pub(crate) fn left_edge(&self, start: u64) -> u64
-        ensures { LeftEdge (starts self.now.by_start) start result }
-    {
-        self.last_before(start)
-            .filter(|free| free.end() == start)
-            .map_or(start, |free| free.start)
-    }
-
-    // Where the free extent ends that begins at a sector; the sector itself, if there is none.
-    pub(crate) fn right_edge(&self, end: u64) -> u64
-        ensures { RightEdge (starts self.now.by_start) end result }
-    {
-        self.first_from(end)
-            .filter(|free| free.start == end)
-            .map_or(end, |free| free.end())
     }
 }

@@ -54,7 +54,7 @@ impl Space {
     pub fn next(&self, sector: u64) -> Option<Extent>
         ensures { Follows (free_in self.now) sector result }
     {
-        let next = self.first_from(sector)?;
+        let next = self.sides(sector).from?;
         Some(Extent {
             start: next.start,
             length: next.len,
@@ -65,7 +65,7 @@ impl Space {
     pub fn has_free(&self, extent: Extent) -> bool
         ensures { result ≡ meets (free_in self.now) extent.start extent.length }
     {
-        self.reaches(extent.into())
+        self.around(extent.into()).met
     }
 
     // How many free extents there would be once the extent is given back; nothing where it cannot be, since it ends beyond
@@ -78,12 +78,13 @@ impl Space {
         if end > self.size.sectors {
             return None;
         }
-        if self.reaches(extent.into()) {
+        let around = self.around(extent.into());
+        if around.met {
             return None;
         }
         // Each neighbour that is free is one extent fewer.
-        let left = (start - self.left_edge(start)).min(1) as usize;
-        let right = (self.right_edge(end) - end).min(1) as usize;
+        let left = (start - around.first).min(1) as usize;
+        let right = (around.last - end).min(1) as usize;
         Some(self.by_start.len() + 1 - left - right)
     }
 }

@@ -1,30 +1,72 @@
-// The free extents nearest to a sector.
+// The free extents nearest to a sector, and what they say of a run.
+ghost use Rattle.std.specs.Prelude.{◌≡◌, true, IfSome};
 ghost use Rattle.table.specs.Table.{pairs as starts};
-ghost use Rattle.space.specs.Tables.{LastBefore, FirstFrom};
+ghost use Rattle.space.specs.Extents.{in_list};
+ghost use Rattle.space.specs.Tables.{RunOf, LastBefore, FirstFrom, Surrounds};
 
 use crate::run::SectorRun;
 use crate::space::Space;
+use table::Entry;
+
+// Of the free extents that begin before a sector the last, and of those that do not the first.
+#[derive(Clone, Copy)]
+pub(crate) struct Sides {
+    pub(crate) before: Option<SectorRun>,
+    pub(crate) from: Option<SectorRun>,
+}
+
+// What lies around a run of sectors.
+#[derive(Clone, Copy)]
+pub(crate) struct Around {
+    // Whether one of its sectors is free.
+    pub(crate) met: bool,
+    // Where the free extent begins that ends at the run; the run's start, if there is none.
+    pub(crate) first: u64,
+    // Where the free extent ends that begins behind the run; the run's end, if there is none.
+    pub(crate) last: u64,
+}
 
 impl Space {
-    // The last free extent that begins before a sector.
-    pub(crate) fn last_before(&self, sector: u64) -> Option<SectorRun>
-        ensures { LastBefore (starts self.now.by_start) sector result }
+    // The free extents on the two sides of a sector, by one search.
+    pub(crate) fn sides(&self, sector: u64) -> Sides
+        ensures before { LastBefore (starts self.now.by_start) sector result.before }
+        ensures from { FirstFrom (starts self.now.by_start) sector result.from }
     {
-        let found = self.by_start.highest_before(sector)?;
+        let found = self.by_start.beside(sector);
+        Sides {
+            before: self.run_of(found.below),
+            from: self.run_of(found.from),
+        }
+    }
+
+    // The extent of a pair of the table of starts, where there is one.
+    fn run_of(&self, pair: Option<Entry<u64, u64>>) -> Option<SectorRun>
+        requires { IfSome pair (λ p. in_list p.key p.value (starts self.now.by_start) ≡ true) }
+        ensures { RunOf pair result }
+    {
+        let pair = pair?;
         Some(SectorRun {
-            start: found.key,
-            len: found.value,
+            start: pair.key,
+            len: pair.value,
         })
     }
 
-    // The first free extent that begins at or after a sector.
-    pub(crate) fn first_from(&self, sector: u64) -> Option<SectorRun>
-        ensures { FirstFrom (starts self.now.by_start) sector result }
+    // What lies around a run; the sector behind it counts only where no sector of the run is free.
+    pub(crate) fn around(&self, run: SectorRun) -> Around
+        ensures { Surrounds (starts self.now.by_start) run.start run.len result }
     {
-        let found = self.by_start.lowest_from(sector)?;
-        Some(SectorRun {
-            start: found.key,
-            len: found.value,
-        })
+        let Sides { before, from } = self.sides(run.start);
+        let start = run.start;
+        let end = run.end();
+        Around {
+            met: before.is_some_and(|free| start < free.end())
+                | from.is_some_and(|free| free.start < end),
+            first: before
+                .filter(|free| free.end() == start)
+                .map_or(start, |free| free.start),
+            last: from
+                .filter(|free| free.start == end)
+                .map_or(end, |free| free.end()),
+        }
     }
 }

@@ -4,6 +4,7 @@ ghost use Rattle.slab_log.specs.Sectors.{used};
 ghost use Rattle.space.specs.Free.{sectors_of, free_in, Follows};
 ghost use Rattle.space.specs.Tables.{FreeTo, UsedTo};
 
+use crate::search::Sides;
 use crate::space::Space;
 use slab_log::Extent;
 
@@ -22,12 +23,14 @@ impl Space {
     fn free_end(&self, sector: u64) -> Option<u64>
         ensures { FreeTo (used (sectors_of self.now) (free_in self.now)) (sectors_of self.now) sector result }
     {
+        let Sides { before, from } = self.sides(sector);
         if sector == 0 {
-            return Some(self.right_edge(0));
+            let first = from.filter(|free| free.start == 0);
+            return Some(first.map_or(0, |free| free.end()));
         }
-        self.last_before(sector)
+        before
             .filter(|free| sector <= free.end())
-            .or_else(|| self.first_from(sector))
+            .or(from)
             .map(|free| free.end())
     }
 
@@ -37,7 +40,8 @@ impl Space {
         requires off { free_in self.now start ≡ false }
         ensures { UsedTo (sectors_of self.now) (free_in self.now) start result }
     {
-        self.first_from(start)
+        self.sides(start)
+            .from
             .map_or(self.size.sectors, |free| free.start)
     }
 }

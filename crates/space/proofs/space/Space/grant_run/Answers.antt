@@ -6,7 +6,7 @@ use Rattle.slab_log.specs.Sectors.{runs}
 use Rattle.slab_log.specs.Replay.{grant}
 use Rattle.space.specs.Free.{sectors_of, free_in}
 use Rattle.space.specs.Tables.{Holds}
-use Rattle.space.proofs.Spaces.{spaced_in, lies_in, runs_moved}
+use Rattle.space.proofs.Spaces.{spaced_in, runs_moved}
 use Rattle.space.proofs.Cutting.{all_free, both_ends}
 use Rattle.space.proofs.Meant.{granted, granted_crowded}
 use Rattle.space.proofs.space.Space.grant_run.Goals as goal

@@ -1,5 +1,5 @@
 -- The run is longest, and none begins between the sector and it.
-use Rattle.std.proofs.Common.{inl, inr, rules, arith}
+use Rattle.std.proofs.Common.{inl, inr, rules}
 use Rattle.std.proofs.lemmas.Bool.{cases_lt, both_ways}
 use Rattle.slab_log.specs.Sectors.{used}
 use Rattle.space.specs.Free.{sectors_of, free_in}

@@ -16,12 +16,14 @@ pub returns-then-alone-len : goal.returns-then-alone-len
 returns-then-alone-len c =
     let now = c.args.self.now in
     let fits = rw (c.end-end.ensures) at c.if-end-self.false in
-    let right = rw (c.end-end.ensures) at c.right_edge-last.ensures in
-    let none = sym c.if-reaches.ensures in
+    let around = c.around-met.ensures in
+    let none = sym around.met ∙ c.if-met.false in
+    let left = around.left in
+    let right = around.right none in
     let full =
-    full_alone c.left_edge-first.result c.args.run.start c.right_edge-last.result (c.args.run.start + c.args.run.len) c.len.result (rw (c.end-end.ensures) at c.if-alone-len.true) in
+    full_alone c.around-met.result.first c.args.run.start c.around-met.result.last (c.args.run.start + c.args.run.len) c.len.result (rw (c.end-end.ensures) at c.if-alone-len.true) in
     let more =
-    joined_count _ _ (spaced_in now) c.args.run.start c.args.run.len _ _ c.args.run.some fits none c.left_edge-first.ensures right in
+    joined_count _ _ (spaced_in now) c.args.run.start c.args.run.len _ _ c.args.run.some fits none left right in
     let many : most_extents < runs (give_back (free_in now) c.args.run.start c.args.run.len) (sectors_of now) =
     omega (arith, more, full.0, full.1, full.2, c.len.ensures.counts) in
     (returned_crowded (sectors_of now) (free_in now) c.args.run.start c.args.run.len fits none many, refl)
@@ -30,11 +32,14 @@ pub take_end-requires-2 : goal.take_end-requires-2
 take_end-requires-2 c =
     let now = c.args.self.now in
     let fits = rw (c.end-end.ensures) at c.if-end-self.false in
-    let right = rw (c.end-end.ensures) at c.right_edge-last.ensures in
+    let around = c.around-met.ensures in
+    let none = sym around.met ∙ c.if-met.false in
+    let left = around.left in
+    let right = around.right none in
     let end = c.args.run.start + c.args.run.len in
-    let long = c.right_edge-last.result - end in
+    let long = c.around-met.result.last - end in
     let stays =
-    right_stays _ _ (spaced_in now) c.args.run.start c.args.run.len _ _ c.args.run.some fits (sym c.if-reaches.ensures) c.left_edge-first.ensures right in
+    right_stays _ _ (spaced_in now) c.args.run.start c.args.run.len _ _ c.args.run.some fits none left right in
     rw (c.end-end.ensures) (λ one. listed_run 0 _ _ (spaced_in c.take_end.new.self) end long (subst (λ f. Run f end long) (sym c.take_end.ensures.moved.sectors) (stays (omega arith))))
 
 pub put_in-requires : goal.put_in-requires
@@ -42,15 +47,17 @@ put_in-requires c =
     let now = c.args.self.now in
     let start = c.args.run.start in
     let end = start + c.args.run.len in
-    let first = c.left_edge-first.result in
-    let last = c.right_edge-last.result in
-    let left = c.left_edge-first.ensures in
+    let first = c.around-met.result.first in
+    let last = c.around-met.result.last in
     let fits = rw (c.end-end.ensures) at c.if-end-self.false in
-    let right = rw (c.end-end.ensures) at c.right_edge-last.ensures in
+    let around = c.around-met.ensures in
+    let none = sym around.met ∙ c.if-met.false in
+    let left = around.left in
+    let right = around.right none in
     let low = left.low in
     let high = right.high in
     let clear =
-    joined_clear _ _ (spaced_in now) start c.args.run.len _ _ c.args.run.some fits (sym c.if-reaches.ensures) left right in
+    joined_clear _ _ (spaced_in now) start c.args.run.len _ _ c.args.run.some fits none left right in
     let sectors = rw (c.end-end.ensures) at c.take_end-2.ensures.moved.sectors ∙ ap (λ f. grant f end (last - end)) c.take_end.ensures.moved.sectors in
     let fewer = c.take_end.ensures.fewer in
     let fewer-2 = rw (c.end-end.ensures) at c.take_end-2.ensures.fewer in
@@ -68,13 +75,15 @@ returns c =
     let now = c.args.self.now in
     let start = c.args.run.start in
     let end = start + c.args.run.len in
-    let first = c.left_edge-first.result in
-    let last = c.right_edge-last.result in
-    let none = sym c.if-reaches.ensures in
+    let first = c.around-met.result.first in
+    let last = c.around-met.result.last in
     let fits = rw (c.end-end.ensures) at c.if-end-self.false in
-    let right = rw (c.end-end.ensures) at c.right_edge-last.ensures in
+    let around = c.around-met.ensures in
+    let none = sym around.met ∙ c.if-met.false in
+    let left = around.left in
+    let right = around.right none in
     let is =
-    joined_is _ _ (spaced_in now) start c.args.run.len _ _ c.args.run.some fits none c.left_edge-first.ensures right in
+    joined_is _ _ (spaced_in now) start c.args.run.len _ _ c.args.run.some fits none left right in
     let emptied = rw (c.end-end.ensures) at c.take_end-2.ensures.moved.sectors ∙ ap (λ f. grant f end (last - end)) c.take_end.ensures.moved.sectors in
     let moved : Moved now c.put_in.new.self (give_back (free_in now) start c.args.run.len) =
     record {

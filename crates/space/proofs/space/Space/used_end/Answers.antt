@@ -6,4 +6,4 @@ use Rattle.space.proofs.space.Space.used_end.Goals as goal
 
 pub returns : goal.returns
 returns c =
-    to_is _ _ (spaced_in c.args.self.now) c.args.start c.requires.within c.requires.off c.first_from.result c.first_from.ensures c.map_or.result (search rules)
+    to_is _ _ (spaced_in c.args.self.now) c.args.start c.requires.within c.requires.off c.sides.result.from c.sides.ensures.from c.map_or.result (search rules)

@@ -1,0 +1,20 @@
+-- The free extents on the two sides of the run's start say what lies around it.
+use Rattle.std.proofs.Common.{◌+◌, rules}
+use Rattle.space.proofs.Edges.{left_is, right_is}
+use Rattle.space.proofs.Joining.{met_is, behind_is}
+use Rattle.space.proofs.Spaces.{spaced_in}
+use Rattle.space.proofs.space.Space.around.Goals as goal
+
+pub returns : goal.returns
+returns c =
+    let run = c.args.run in
+    let h = spaced_in c.args.self.now in
+    let sides = c.sides-before.result in
+    let before = c.sides-before.ensures.before in
+    let from = c.sides-before.ensures.from in
+    record {
+      met = met_is _ _ h run.start run.len run.some sides.before sides.from before from c.is_some_and.result c.is_some_and-2.result (search rules) (search rules);
+      left = left_is _ _ h run.start sides.before c.filter.result before (search rules) c.map_or.result (search rules);
+      right = λ none. right_is _ _ h (run.start + run.len) sides.from c.filter-2.result (behind_is _ _ h run.start run.len run.some sides.before sides.from before from
+          c.is_some_and.result c.is_some_and-2.result (search rules) (search rules) none) (search rules) c.map_or-2.result (search rules);
+    }
