@@ -1,11 +1,12 @@
 -- The way back up: a node over the tree that is new below, and then the next one.
-use Rattle.std.proofs.Common.{◌≡◌, ℕ, ◌+◌, ◌<◌, ◌≤◌, max, Bool, true, false, not, List, [], ◌∷◌, ◌++◌, length, Some, sym, refl, ap, ◌∙◌, subst, append_assoc, append-nil, length-append, arith}
+use Rattle.std.proofs.Common.{◌≡◌, ℕ, ◌+◌, ◌<◌, ◌≤◌, max, List, [], ◌∷◌, ◌++◌, length, Some, sym, refl, ap, ◌∙◌, subst, append_assoc, append-nil, length-append, arith}
 use Rattle.std.specs.List.{slice_get}
 use Rattle.std.proofs.lemmas.Bool.{cases_lt}
 use Rattle.std.proofs.lemmas.List.{same_from_push}
 use Rattle.std.proofs.lemmas.Option.{slice_get_within}
 use Rattle.table.specs.declared.node.Node.{Node}
 use Rattle.table.specs.declared.tree.path.Step.{Step}
+use Rattle.table.specs.Side.{Side, Left, Right, across}
 use Rattle.table.specs.Tree.{Item, Tree, ptr, tall, inorder, one, uses, Near}
 use Rattle.table.specs.Edit.{item, Once, Uneven, Balanced, node_on, child_on, RoomOn}
 use Rattle.table.specs.Path.{Frame, on, front, back, top, Along, steps, Climb, Climbed, Progress}
@@ -27,14 +28,14 @@ module _ {K V : Type 0} where
   top_le (on s x o ∷ fs) h = omega (arith, top_le fs (max h (tall o) + 1))
 
   -- the places around the end of the way, with one node more
-  frame_uses : (j : ℕ) (s : Bool) (x : Item K V) (o : Tree K V) (fs : List (Frame K V)) → uses j (front (on s x o ∷ fs)) + uses j (back (on s x o ∷ fs)) ≡ uses j (front fs) + one j x.at + uses j (inorder o) + uses j (back fs)
-  frame_uses j true x o fs = omega (arith, uses_append j (inorder o) (back fs))
-  frame_uses j false x o fs = omega (arith, uses_append j (front fs) (inorder o ++ x ∷ []), uses_node j x (inorder o) [])
+  frame_uses : (j : ℕ) (s : Side) (x : Item K V) (o : Tree K V) (fs : List (Frame K V)) → uses j (front (on s x o ∷ fs)) + uses j (back (on s x o ∷ fs)) ≡ uses j (front fs) + one j x.at + uses j (inorder o) + uses j (back fs)
+  frame_uses j Left x o fs = omega (arith, uses_append j (inorder o) (back fs))
+  frame_uses j Right x o fs = omega (arith, uses_append j (front fs) (inorder o ++ x ∷ []), uses_node j x (inorder o) [])
 
   -- the items around a node, and around one of its sides
-  pub frame_row : (s : Bool) (x : Item K V) (t o : Tree K V) (fs : List (Frame K V)) → front fs ++ (inorder (node_on s x t o) ++ back fs) ≡ front (on s x o ∷ fs) ++ (inorder t ++ back (on s x o ∷ fs))
-  frame_row true x t o fs = simp append_assoc
-  frame_row false x t o fs = simp append_assoc
+  pub frame_row : (s : Side) (x : Item K V) (t o : Tree K V) (fs : List (Frame K V)) → front fs ++ (inorder (node_on s x t o) ++ back fs) ≡ front (on s x o ∷ fs) ++ (inorder t ++ back (on s x o ∷ fs))
+  frame_row Left x t o fs = simp append_assoc
+  frame_row Right x t o fs = simp append_assoc
 
   pub along_frame : (xs ys : List (Node K V)) (fs : List (Frame K V)) → ((j : ℕ) → 1 ≤ uses j (front fs) + uses j (back fs) → slice_get ys j ≡ slice_get xs j) → Along xs fs → Along ys fs
   along_frame xs ys [] same h = tt
@@ -49,9 +50,9 @@ module _ {K V : Type 0} where
   pub record Pop (fs : List (Frame K V)) (path : List Step) (step : Step) (n : Node K V) : Type 0 where
     pub o : Tree K V
     pub rest : List (Frame K V)
-    pub is : fs ≡ on step.left (item step.at n.key n.value) o ∷ rest
+    pub is : fs ≡ on step.side (item step.at n.key n.value) o ∷ rest
     pub noted : path ≡ steps rest
-    pub side : child_on (not step.left) n ≡ ptr o
+    pub side : child_on (across step.side) n ≡ ptr o
 
   module _ (xs : List (Node K V)) (path : List Step) (step : Step) where
     no_step : path ++ step ∷ [] ≡ [] → ⊥
@@ -67,12 +68,12 @@ module _ {K V : Type 0} where
     pop (on s x o ∷ fs) n h e read =
         let st = same_from_push path (steps fs) step _ e in
         let at : step.at ≡ x.at = ap (λ (q : Step). q.at) st.1 in
-        let flag : step.left ≡ s = ap (λ (q : Step). q.left) st.1 in
+        let same_side : step.side ≡ s = ap (λ (q : Step). q.side) st.1 in
         let m : n ≡ h.1.0 = same_some _ _ (sym read ∙ ap (slice_get xs) at ∙ h.1.1) in
         let y : item step.at n.key n.value ≡ x = (λ a. item (at a) (m a).key (m a).value) ∙ h.1.2 in
-        record { o = o; rest = fs; is = λ a. on (sym flag a) (sym y a) o ∷ fs; noted = st.0; side = (λ a. child_on (not (flag a)) (m a)) ∙ h.1.3 }
+        record { o = o; rest = fs; is = λ a. on (sym same_side a) (sym y a) o ∷ fs; noted = st.0; side = (λ a. child_on (across (same_side a)) (m a)) ∙ h.1.3 }
 
-  module _ (xs : List (Node K V)) (path rest : List Step) (link : ℕ) (s : Bool) (x : Item K V) (o : Tree K V) (fs : List (Frame K V)) (t : Tree K V) (h : ℕ) (noted : rest ≡ steps fs) (cl : Climb xs path link (on s x o ∷ fs) t h) where
+  module _ (xs : List (Node K V)) (path rest : List Step) (link : ℕ) (s : Side) (x : Item K V) (o : Tree K V) (fs : List (Frame K V)) (t : Tree K V) (h : ℕ) (noted : rest ≡ steps fs) (cl : Climb xs path link (on s x o ∷ fs) t h) where
     climb_uses : (j : ℕ) → uses j (front (on s x o ∷ fs) ++ (inorder t ++ back (on s x o ∷ fs))) ≡ uses j (front fs) + uses j (inorder t) + one j x.at + uses j (inorder o) + uses j (back fs)
     climb_uses j = omega (arith, uses_append j (front (on s x o ∷ fs)) (inorder t ++ back (on s x o ∷ fs)), uses_append j (inorder t) (back (on s x o ∷ fs)), frame_uses j s x o fs)
 
@@ -119,7 +120,7 @@ module _ {K V : Type 0} where
         }
 
   -- one turn of the climb: what it asks, and what it comes to
-  pub record Ready (xs ys : List (Node K V)) (path : List Step) (link other : ℕ) (items : List (Item K V)) (high : ℕ) (s : Bool) (x : Item K V) (t : Tree K V) : Type 0 where
+  pub record Ready (xs ys : List (Node K V)) (path : List Step) (link other : ℕ) (items : List (Item K V)) (high : ℕ) (s : Side) (x : Item K V) (t : Tree K V) : Type 0 where
     pub o : Tree K V
     pub room : RoomOn s ys x link other t o
     pub uneven : Uneven t o
@@ -142,10 +143,10 @@ module _ {K V : Type 0} where
     pub popped_within : step.at < length ys
     popped_within = step_within ys rest step p.fs p.climb.along (sym popped ∙ p.climb.noted)
 
-    pub ready : (n : Node K V) (other : ℕ) → slice_get ys step.at ≡ Some n → other ≡ child_on (not step.left) n → (y : Item K V) → y ≡ item step.at n.key n.value → Ready xs ys rest link other items high step.left y p.tree
+    pub ready : (n : Node K V) (other : ℕ) → slice_get ys step.at ≡ Some n → other ≡ child_on (across step.side) n → (y : Item K V) → y ≡ item step.at n.key n.value → Ready xs ys rest link other items high step.side y p.tree
     ready n other read side y y-is =
         let k = pop ys rest step p.fs n p.climb.along (sym popped ∙ p.climb.noted) read in
-        let s = step.left in
+        let s = step.side in
         let x : Item K V = item step.at n.key n.value in
         let P : List (Frame K V) → Type 0 = λ fs. Climb ys path link fs p.tree p.h in
         let cl : P (on s x k.o ∷ k.rest) = subst P k.is p.climb in

@@ -1,9 +1,10 @@
 -- Nodes that are taken out.
-use Rattle.std.proofs.Common.{◌≡◌, ℕ, ◌+◌, ◌<◌, ◌≤◌, max, Bool, true, false, ◌≢◌, List, [], ◌∷◌, ◌++◌, length, Some, sym, refl, ap, ◌∙◌, subst, append_assoc, append-nil, arith}
+use Rattle.std.proofs.Common.{◌≡◌, ℕ, ◌+◌, ◌<◌, ◌≤◌, max, Bool, true, ◌≢◌, List, [], ◌∷◌, ◌++◌, length, Some, sym, refl, ap, ◌∙◌, subst, append_assoc, append-nil, arith}
 use Rattle.std.specs.List.{slice_get}
 use Rattle.std.proofs.lemmas.Option.{slice_get_within}
 use Rattle.table.specs.declared.node.Node.{Node}
 use Rattle.table.specs.declared.tree.path.Step.{Step}
+use Rattle.table.specs.Side.{Left, Right}
 use Rattle.table.specs.Tree.{Item, Tree, leaf, node, none, tall, inorder, one, uses, Avl, Stands}
 use Rattle.table.specs.Edit.{item, Once, Room, Uneven, Balanced}
 use Rattle.table.specs.Path.{Frame, front, back, top, Climb, Climbed}
@@ -26,11 +27,11 @@ module _ {K V : Type 0} where
         let o = opened xs link n lw.sub lw.way.stands lw.some read in
         omega (arith, lw.way.space, ap tall o.is)
 
-    pub left_step : n.left ≢ none → Leftward xs (path ++ record { at = link; left = true } ∷ []) n.left t
+    pub left_step : n.left ≢ none → Leftward xs (path ++ record { at = link; side = Left } ∷ []) n.left t
     left_step more =
         let o = opened xs link n lw.sub lw.way.stands lw.some read in
         let w = subst (λ (s : Tree K V). Way xs path link t lw.fs s) o.is lw.way in
-        record { fs = _; sub = o.l; way = way_on xs path link t n read o.linkable lw.fs true o.l o.r o.on_left o.on_right w; some = more; first = lw.first }
+        record { fs = _; sub = o.l; way = way_on xs path link t n read o.linkable lw.fs Left o.l o.r o.on_left o.on_right w; some = more; first = lw.first }
 
   -- a way that a call has noted
   pub left_noted : (xs : List (Node K V)) (path path-2 : List Step) (link : ℕ) (t : Tree K V) → path-2 ≡ path → Leftward xs path link t → Leftward xs path-2 link t
@@ -109,7 +110,7 @@ module _ {K V : Type 0} where
       pub stem_right : Stem xs n.right r
       pub room : (ys : List (Node K V)) (at rest : ℕ) (m : Node K V) (k : MinTaken xs ys at rest r) → slice_get ys at ≡ Some m → Room ys (item at m.key m.value) n.left rest l k.tree
       pub uneven : (ys : List (Node K V)) (at rest : ℕ) (k : MinTaken xs ys at rest r) → Uneven k.tree l
-      pub next : (ys zs : List (Node K V)) (at rest i : ℕ) (m : Node K V) (k : MinTaken xs ys at rest r) → slice_get ys at ≡ Some m → Balanced false ys zs i (item at m.key m.value) k.tree l → Lifted xs zs root i t
+      pub next : (ys zs : List (Node K V)) (at rest i : ℕ) (m : Node K V) (k : MinTaken xs ys at rest r) → slice_get ys at ≡ Some m → Balanced Right ys zs i (item at m.key m.value) k.tree l → Lifted xs zs root i t
 
     lift_at : (l r : Tree K V) → t ≡ node (item root n.key n.value) l r → n.right ≢ none → Stands xs n.left l → Stands xs n.right r → RightReady l r
     lift_at l r is some on_left on_right =

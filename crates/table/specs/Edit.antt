@@ -1,7 +1,8 @@
 -- What the edits of a tree ask and give.
-use Rattle.std.specs.Prelude.{◌≡◌, ℕ, ◌+◌, ◌<◌, ◌≤◌, max, Bool, true, false, ◌≢◌, List, ◌∷◌, ◌++◌, length}
+use Rattle.std.specs.Prelude.{◌≡◌, ℕ, ◌+◌, ◌<◌, ◌≤◌, max, ◌≢◌, List, ◌∷◌, ◌++◌, length}
 use Rattle.std.specs.List.{slice_get}
 use Rattle.table.specs.declared.node.Node.{Node}
+use Rattle.table.specs.Side.{Side, Left, Right}
 use Rattle.table.specs.Tree.{Item, Tree, node, none, tall, inorder, uses, Near, Avl, Stands}
 
 abbrev pub item : {K V : Type 0} → ℕ → K → V → Item K V
@@ -41,26 +42,26 @@ pub record Mended {K V : Type 0} (xs ys : List (Node K V)) (link : ℕ) (items :
   pub long : length ys ≡ length xs
   pub same : (j : ℕ) → uses j items ≡ 0 → slice_get ys j ≡ slice_get xs j
 
--- Sides by a flag: of two trees the near one stands on the left where it is true, and on the right where it is false.
-abbrev pub node_on : {K V : Type 0} → Bool → Item K V → Tree K V → Tree K V → Tree K V
-node_on true x near far = node x near far
-node_on false x near far = node x far near
+-- Of two trees the near one stands on a side, and the far one on the other.
+abbrev pub node_on : {K V : Type 0} → Side → Item K V → Tree K V → Tree K V → Tree K V
+node_on Left x near far = node x near far
+node_on Right x near far = node x far near
 
-abbrev pub row_on : {K V : Type 0} → Bool → List (Item K V) → Item K V → List (Item K V) → List (Item K V)
-row_on true near x far = near ++ x ∷ far
-row_on false near x far = far ++ x ∷ near
+abbrev pub row_on : {K V : Type 0} → Side → List (Item K V) → Item K V → List (Item K V) → List (Item K V)
+row_on Left near x far = near ++ x ∷ far
+row_on Right near x far = far ++ x ∷ near
 
-abbrev pub child_on : {K V : Type 0} → Bool → Node K V → ℕ
-child_on true n = n.left
-child_on false n = n.right
+abbrev pub child_on : {K V : Type 0} → Side → Node K V → ℕ
+child_on Left n = n.left
+child_on Right n = n.right
 
-abbrev pub RoomOn : {K V : Type 0} → Bool → List (Node K V) → Item K V → ℕ → ℕ → Tree K V → Tree K V → Type 0
-RoomOn true xs x near far n f = Room xs x near far n f
-RoomOn false xs x near far n f = Room xs x far near f n
+abbrev pub RoomOn : {K V : Type 0} → Side → List (Node K V) → Item K V → ℕ → ℕ → Tree K V → Tree K V → Type 0
+RoomOn Left xs x near far n f = Room xs x near far n f
+RoomOn Right xs x near far n f = Room xs x far near f n
 
-abbrev pub JoinedOn : {K V : Type 0} → Bool → List (Node K V) → List (Node K V) → ℕ → Item K V → Tree K V → Tree K V → Type 0
-JoinedOn true xs ys link x n f = Joined xs ys link x n f
-JoinedOn false xs ys link x n f = Joined xs ys link x f n
+abbrev pub JoinedOn : {K V : Type 0} → Side → List (Node K V) → List (Node K V) → ℕ → Item K V → Tree K V → Tree K V → Type 0
+JoinedOn Left xs ys link x n f = Joined xs ys link x n f
+JoinedOn Right xs ys link x n f = Joined xs ys link x f n
 
 -- both trees are balanced, and the first is two taller
 pub record Heavy {K V : Type 0} (h l : Tree K V) : Type 0 where
@@ -75,6 +76,6 @@ pub record Uneven {K V : Type 0} (n f : Tree K V) : Type 0 where
   pub gap_near : tall n ≤ tall f + 2
   pub gap_far : tall f ≤ tall n + 2
 
-pub record Balanced {K V : Type 0} (s : Bool) (xs ys : List (Node K V)) (link : ℕ) (x : Item K V) (n f : Tree K V) : Type 0 where
+pub record Balanced {K V : Type 0} (s : Side) (xs ys : List (Node K V)) (link : ℕ) (x : Item K V) (n f : Tree K V) : Type 0 where
   pub mended : Mended xs ys link (row_on s (inorder n) x (inorder f)) (max (tall n) (tall f))
   pub level : Near (tall n) (tall f) → tall mended.tree ≡ max (tall n) (tall f) + 1

@@ -2,6 +2,8 @@
 ghost use Rattle.std.specs.Prelude.{◌≡◌};
 ghost use Rattle.table.specs.Edit.{item, child_on};
 
+use crate::side::Side;
+
 // The link to no record. A number and no `Option<u16>`, which takes twice as much: memory is fixed, and a record takes 24 bytes.
 pub(crate) const NONE: u16 = 65535;
 
@@ -39,10 +41,13 @@ impl<K: Copy, V: Copy> Node<K, V> {
     }
 
     // The link of one side.
-    pub(crate) fn child(&self, left: bool) -> u16
-        ensures { result ≡ child_on left self.now }
+    pub(crate) fn child(&self, side: Side) -> u16
+        ensures { result ≡ child_on side self.now }
     {
-        if left { self.left } else { self.right }
+        match side {
+            Side::Left => self.left,
+            Side::Right => self.right,
+        }
     }
 }
 

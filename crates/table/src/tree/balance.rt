@@ -1,11 +1,12 @@
-// Nodes over two trees: joined as they are, or turned where one is two taller. The side is a flag: its negation is
-// the other side, and one proof serves both.
+// Nodes over two trees: joined as they are, or turned where one is two taller. The side of one of the two is an argument: what
+// is done on one side is done on the other, and one proof serves both.
 ghost use Rattle.std.specs.Prelude.{◌≡◌, ◌+◌, ◌<◌, length, Some};
 ghost use Rattle.std.specs.List.{slice_get};
 ghost use Rattle.table.specs.Tree.{Tree, Stands, tall, inorder};
 ghost use Rattle.table.specs.Edit.{Room, Joined, Mended, Heavy, Uneven, Balanced, RoomOn, JoinedOn, row_on};
 
 use crate::node::{Item, NONE, Node};
+use crate::side::Side;
 
 // Lends the record at a link, to be read field by field.
 pub(crate) fn read<K: Copy, V: Copy>(nodes: &[Node<K, V>], link: u16) -> &Node<K, V>
@@ -48,71 +49,70 @@ pub(crate) fn join<K: Copy, V: Copy>(
     item.at
 }
 
-// Puts a node over two trees, the near one on the left if so asked, and else on the right.
+// Puts a node over two trees, the near one on the side that is asked for.
 fn join_on<K: Copy, V: Copy>(
     nodes: &mut [Node<K, V>],
-    left: bool,
+    side: Side,
     item: Item<K, V>,
     near: u16,
     far: u16,
 ) -> u16
-    requires { (n : Tree K V) × (f : Tree K V) × RoomOn left nodes.old item near far n f }
-    ensures { (n f : Tree K V) → RoomOn left nodes.old item near far n f → JoinedOn left nodes.old nodes.new result item n f }
+    requires { (n : Tree K V) × (f : Tree K V) × RoomOn side nodes.old item near far n f }
+    ensures { (n f : Tree K V) → RoomOn side nodes.old item near far n f → JoinedOn side nodes.old nodes.new result item n f }
 {
-    if left {
-        join(nodes, item, near, far)
-    } else {
-        join(nodes, item, far, near)
+    match side {
+        Side::Left => join(nodes, item, near, far),
+        Side::Right => join(nodes, item, far, near),
     }
 }
 
-// Puts a node over two trees of which the heavy one, on the left if so said and else on the right, is two taller.
+// Puts a node over two trees of which the heavy one, on the side that is said, is two taller.
 fn turn<K: Copy, V: Copy>(
     nodes: &mut [Node<K, V>],
-    left: bool,
+    side: Side,
     item: Item<K, V>,
     heavy: u16,
     light: u16,
 ) -> u16
-    requires { (h : Tree K V) × (l : Tree K V) × RoomOn left nodes.old item heavy light h l × Heavy h l }
-    ensures { (h l : Tree K V) → RoomOn left nodes.old item heavy light h l → Heavy h l → Mended nodes.old nodes.new result (row_on left (inorder h) item (inorder l)) (tall h) }
+    requires { (h : Tree K V) × (l : Tree K V) × RoomOn side nodes.old item heavy light h l × Heavy h l }
+    ensures { (h l : Tree K V) → RoomOn side nodes.old item heavy light h l → Heavy h l → Mended nodes.old nodes.new result (row_on side (inorder h) item (inorder l)) (tall h) }
 {
     let top = read(nodes, heavy);
-    let outer = top.child(left);
-    let inner = top.child(!left);
+    let outer = top.child(side);
+    let inner = top.child(side.other());
     let top_item = top.item(heavy);
     if height(nodes, inner) <= height(nodes, outer) {
-        let low = join_on(nodes, left, item, inner, light);
-        join_on(nodes, left, top_item, outer, low)
+        let low = join_on(nodes, side, item, inner, light);
+        join_on(nodes, side, top_item, outer, low)
     } else {
         let mid = read(nodes, inner);
-        let near = mid.child(left);
-        let far = mid.child(!left);
+        let near = mid.child(side);
+        let far = mid.child(side.other());
         let mid_item = mid.item(inner);
-        let a = join_on(nodes, left, top_item, outer, near);
-        let b = join_on(nodes, left, item, far, light);
-        join_on(nodes, left, mid_item, a, b)
+        let a = join_on(nodes, side, top_item, outer, near);
+        let b = join_on(nodes, side, item, far, light);
+        join_on(nodes, side, mid_item, a, b)
     }
 }
 
-// Puts a node over two trees, the near one on the left if so asked and else on the right, and turns it where one is two taller.
+// Puts a node over two trees, the near one on the side that is asked for, and turns it where one is two taller.
 pub(crate) fn balance<K: Copy, V: Copy>(
     nodes: &mut [Node<K, V>],
-    left: bool,
+    side: Side,
     item: Item<K, V>,
     near: u16,
     far: u16,
 ) -> u16
-    requires { (n : Tree K V) × (f : Tree K V) × RoomOn left nodes.old item near far n f × Uneven n f }
-    ensures { (n f : Tree K V) → RoomOn left nodes.old item near far n f → Uneven n f → Balanced left nodes.old nodes.new result item n f }
+    requires { (n : Tree K V) × (f : Tree K V) × RoomOn side nodes.old item near far n f × Uneven n f }
+    ensures { (n f : Tree K V) → RoomOn side nodes.old item near far n f → Uneven n f → Balanced side nodes.old nodes.new result item n f }
 {
     let on_near = height(nodes, near);
     let on_far = height(nodes, far);
     if on_near > on_far + 1 {
-        turn(nodes, left, item, near, far)
+        turn(nodes, side, item, near, far)
     } else if on_far > on_near + 1 {
-        turn(nodes, !left, item, far, near)
+        turn(nodes, side.other(), item, far, near)
     } else {
-        join_on(nodes, left, item, near, far)
+        join_on(nodes, side, item, near, far)
     }
 }

@@ -10,6 +10,7 @@ use super::balance::{balance, join, read};
 use super::path::{climb, left_end, seek};
 use crate::key::Key;
 use crate::node::{Item, NONE, Node};
+use crate::side::Side;
 
 // A node that was taken out, and the root of what is left of the tree.
 #[derive(Clone, Copy)]
@@ -59,7 +60,7 @@ fn lift<K: Copy, V: Copy>(nodes: &mut [Node<K, V>], root: u16) -> u16
     } else {
         let min = take_min(nodes, right);
         let item = read(nodes, min.at).item(min.at);
-        balance(nodes, false, item, min.rest, left)
+        balance(nodes, Side::Right, item, min.rest, left)
     }
 }
 

@@ -9,13 +9,14 @@ ghost use Rattle.table.specs.Remove.{Stem, Leftward, LeftEnd};
 use super::balance::{balance, read};
 use crate::key::Key;
 use crate::node::{NONE, Node};
+use crate::side::Side;
 use arrayvec::ArrayVec;
 
 // One step of a way down: the node that it leaves, and to which side.
 #[derive(Clone, Copy, Default)]
 pub(crate) struct Step {
     pub(crate) at: u16,
-    pub(crate) left: bool,
+    pub(crate) side: Side,
 }
 
 // The most steps of a way down a tree of at most 1,024 nodes.
@@ -40,9 +41,9 @@ pub(crate) fn climb<K: Copy, V: Copy>(nodes: &mut [Node<K, V>], path: Path, link
     let mut sub = link;
     while let Some(step) = path.pop() {
         let n = read(nodes, step.at);
-        let other = n.child(!step.left);
+        let other = n.child(step.side.other());
         let item = n.item(step.at);
-        sub = balance(nodes, step.left, item, sub, other);
+        sub = balance(nodes, step.side, item, sub, other);
     }
     sub
 }
@@ -59,13 +60,13 @@ pub(crate) fn seek<K: Key, V: Copy>(nodes: &[Node<K, V>], root: u16, key: K) -> 
         if key.precedes(n.key) {
             path.push(Step {
                 at: link,
-                left: true,
+                side: Side::Left,
             });
             link = n.left;
         } else if n.key.precedes(key) {
             path.push(Step {
                 at: link,
-                left: false,
+                side: Side::Right,
             });
             link = n.right;
         } else {
@@ -89,7 +90,7 @@ pub(crate) fn left_end<K: Copy, V: Copy>(nodes: &[Node<K, V>], root: u16) -> Pla
         }
         path.push(Step {
             at: link,
-            left: true,
+            side: Side::Left,
         });
         link = n.left;
     }

@@ -7,7 +7,7 @@ pub turn-requires-then-on_far-on_near : goal.turn-requires-then-on_far-on_near
 turn-requires-then-on_far-on_near g c =
     let p = c.requires in
     let k = pieces _ _ _ _ _ _ _ p.2 in
-    (p.1, p.0, room_swap _ _ _ _ _ _ _ p.2, far_heavy p.0 p.1 p.3 (two_taller _ _ _ _ (c.height-on_far.ensures p.1 k.on_far) (c.height-on_near.ensures p.0 k.on_near) c.if-on_far-on_near.true))
+    (p.1, p.0, rw c.other.ensures (room_swap _ _ _ _ _ _ _ p.2), far_heavy p.0 p.1 p.3 (two_taller _ _ _ _ (c.height-on_far.ensures p.1 k.on_far) (c.height-on_near.ensures p.0 k.on_near) c.if-on_far-on_near.true))
 
 pub returns-then-on_near-on_far : goal.returns-then-on_near-on_far
 returns-then-on_near-on_far g c = λ n f room u.
@@ -19,7 +19,7 @@ pub returns-then-on_far-on_near : goal.returns-then-on_far-on_near
 returns-then-on_far-on_near g c = λ n f room u.
     let k = pieces _ _ _ _ _ n f room in
     let test = two_taller _ _ _ _ (c.height-on_far.ensures f k.on_far) (c.height-on_near.ensures n k.on_near) c.if-on_far-on_near.true in
-    from_far _ _ _ _ _ n f u test (c.turn-then-on_far-on_near.ensures f n (room_swap _ _ _ _ _ n f room) (far_heavy n f u test))
+    from_far _ _ _ _ _ n f u test (rw c.other.ensures at (c.turn-then-on_far-on_near.ensures f n (rw c.other.ensures (room_swap _ _ _ _ _ n f room)) (far_heavy n f u test)))
 
 pub returns-else-on_far-on_near : goal.returns-else-on_far-on_near
 returns-else-on_far-on_near g c = λ n f room u.
