@@ -5,12 +5,12 @@ use Rattle.table.specs.declared.node.Node.{Node}
 use Rattle.table.specs.declared.tree.path.Step.{Step}
 use Rattle.table.specs.Side.{Side, Left, Right, across}
 use Rattle.table.specs.Tree.{Item, Tree, none, tall, inorder, Avl, Stands}
-use Rattle.table.specs.Edit.{item, node_on, child_on}
+use Rattle.table.specs.Edit.{item, child_on}
 use Rattle.table.specs.Path.{Frame, on, front, back, top, Lvl}
 use Rattle.table.specs.Pairs.{Each}
 use Rattle.table.specs.Search.{Sorted, Whole, Way, Walk, Descent}
 use Rattle.table.proofs.Model.{opened}
-use Rattle.table.proofs.Turn.{tall_on, avl_off}
+use Rattle.table.proofs.Turn.{node_on, tall_on, avl_off}
 use Rattle.table.proofs.Climbing.{frame_row}
 
 module _ {A : Type 0} where

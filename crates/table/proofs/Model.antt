@@ -5,6 +5,7 @@ use Rattle.std.proofs.lemmas.List.{length-set}
 use Rattle.std.proofs.lemmas.Bool.Decides.{nat_tests}
 use Rattle.std.proofs.lemmas.Option.{slice_get_within}
 use Rattle.table.specs.declared.node.Node.{Node}
+use Rattle.table.specs.Side.{Links}
 use Rattle.table.specs.Tree.{Item, Tree, leaf, node, none, tall, inorder, one, uses, cell, Rep, Stands}
 use Rattle.table.specs.Edit.{item, Room, Joined}
 
@@ -95,9 +96,9 @@ module _ {K V : Type 0} where
   tall_read xs link n (node x l r) s ne e = ap (λ (m : Node K V). m.height) (same_some n (cell x l r) (sym e ∙ ap (slice_get xs) s.root ∙ s.held.1))
 
   -- the record that joins two trees
-  pub joined : (xs : List (Node K V)) (x : Item K V) (left right h : ℕ) (l r : Tree K V) → Room xs x left right l r → h ≡ max (tall l) (tall r) + 1 → Joined xs (set xs x.at (record { key = x.key; value = x.value; left = left; right = right; height = h })) x.at x l r
-  joined xs x left right h l r room tall-is =
-      let n : Node K V = record { key = x.key; value = x.value; left = left; right = right; height = h } in
+  pub joined : (xs : List (Node K V)) (x : Item K V) (links : Links) (h : ℕ) (l r : Tree K V) → Room xs x links l r → h ≡ max (tall l) (tall r) + 1 → Joined xs (set xs x.at (record { key = x.key; value = x.value; left = links.left; right = links.right; height = h })) x.at x l r
+  joined xs x links h l r room tall-is =
+      let n : Node K V = record { key = x.key; value = x.value; left = links.left; right = links.right; height = h } in
       let ys : List (Node K V) = set xs x.at n in
       let same : (j : ℕ) → j ≢ x.at → slice_get ys j ≡ slice_get xs j = λ j ne. nth_set_other xs x.at j n ne in
       let full : n ≡ cell x l r = cc (room.on_left.root, room.on_right.root, tall-is) in

@@ -4,7 +4,7 @@ use Rattle.std.specs.List.{slice_get}
 use Rattle.std.proofs.lemmas.Option.{slice_get_within}
 use Rattle.table.specs.declared.node.Node.{Node}
 use Rattle.table.specs.declared.tree.path.Step.{Step}
-use Rattle.table.specs.Side.{Left, Right}
+use Rattle.table.specs.Side.{Left}
 use Rattle.table.specs.Tree.{Item, Tree, leaf, node, none, tall, inorder, one, uses, Avl, Stands}
 use Rattle.table.specs.Edit.{item, Once, Room, Uneven, Balanced}
 use Rattle.table.specs.Path.{Frame, front, back, top, Climb, Climbed}
@@ -108,9 +108,9 @@ module _ {K V : Type 0} where
     -- the right side has a node
     pub record RightReady (l r : Tree K V) : Type 0 where
       pub stem_right : Stem xs n.right r
-      pub room : (ys : List (Node K V)) (at rest : ℕ) (m : Node K V) (k : MinTaken xs ys at rest r) → slice_get ys at ≡ Some m → Room ys (item at m.key m.value) n.left rest l k.tree
-      pub uneven : (ys : List (Node K V)) (at rest : ℕ) (k : MinTaken xs ys at rest r) → Uneven k.tree l
-      pub next : (ys zs : List (Node K V)) (at rest i : ℕ) (m : Node K V) (k : MinTaken xs ys at rest r) → slice_get ys at ≡ Some m → Balanced Right ys zs i (item at m.key m.value) k.tree l → Lifted xs zs root i t
+      pub room : (ys : List (Node K V)) (at rest : ℕ) (m : Node K V) (k : MinTaken xs ys at rest r) → slice_get ys at ≡ Some m → Room ys (item at m.key m.value) (record { left = n.left; right = rest }) l k.tree
+      pub uneven : (ys : List (Node K V)) (at rest : ℕ) (k : MinTaken xs ys at rest r) → Uneven l k.tree
+      pub next : (ys zs : List (Node K V)) (at rest i : ℕ) (m : Node K V) (k : MinTaken xs ys at rest r) → slice_get ys at ≡ Some m → Balanced ys zs i (item at m.key m.value) l k.tree → Lifted xs zs root i t
 
     lift_at : (l r : Tree K V) → t ≡ node (item root n.key n.value) l r → n.right ≢ none → Stands xs n.left l → Stands xs n.right r → RightReady l r
     lift_at l r is some on_left on_right =
@@ -132,7 +132,7 @@ module _ {K V : Type 0} where
                 low_left = omega (arith, stem.low);
                 low_right = omega (arith, stem.low, k.near);
               };
-          uneven = λ ys at rest k. record { avl_near = k.avl; avl_far = avl.1; gap_near = omega (arith, avl.0, k.near); gap_far = omega (arith, avl.0, k.near) };
+          uneven = λ ys at rest k. record { avl_left = avl.1; avl_right = k.avl; gap_left = omega (arith, avl.0, k.near); gap_right = omega (arith, avl.0, k.near) };
           next = λ ys zs at rest i m k e b.
               let done = b.mended in
               record {
@@ -145,7 +145,7 @@ module _ {K V : Type 0} where
                 stands = done.stands;
                 order = done.order ∙ ap (λ (q : List (Item K V)). inorder l ++ q) (sym (swap ys at rest m k e));
                 avl = done.avl;
-                near = rw high (level_near (tall r) (tall k.tree) (tall l) (tall done.tree) k.near (avl.0.1, avl.0.0) done.least done.most b.level);
+                near = rw high (level_near (tall r) (tall k.tree) (tall l) (tall done.tree) k.near (avl.0.1, avl.0.0) (omega (arith, done.least)) (omega (arith, done.most)) (λ near. omega (arith, b.level (near.1, near.0))));
                 long = done.long ∙ k.long;
                 same = λ j off. done.same j (omega (arith, off, uses_append j (inorder l) (inorder r), ap (uses j) (swap ys at rest m k e), uses_node j (item at m.key m.value) (inorder l) (inorder k.tree))) ∙ k.same j (omega (arith, off, uses_append j (inorder l) (inorder r)));
               };

@@ -3,10 +3,27 @@ use Rattle.std.proofs.Common.{◌≡◌, ℕ, ◌+◌, ◌<◌, ◌≤◌, max, 
 use Rattle.std.specs.List.{slice_get}
 use Rattle.std.proofs.lemmas.Option.{slice_get_within}
 use Rattle.table.specs.declared.node.Node.{Node}
-use Rattle.table.specs.Side.{Side, Left, Right, across}
-use Rattle.table.specs.Tree.{Item, Tree, none, tall, inorder, one, uses, Near, Avl, Stands}
-use Rattle.table.specs.Edit.{item, Changed, Mended, Heavy, node_on, row_on, child_on, RoomOn, JoinedOn}
+use Rattle.table.specs.Side.{Side, Left, Right, Links, across, links_of, link_on}
+use Rattle.table.specs.Tree.{Item, Tree, node, none, tall, inorder, one, uses, Near, Avl, Stands}
+use Rattle.table.specs.Edit.{item, Room, Changed, Joined, Mended, Heavy, child_on, tree_on}
 use Rattle.table.proofs.Model.{uses_node, one_at, rep_frame, opened, link_within, empty_tall}
+
+-- Of two trees the near one stands on a side, and the far one on the other.
+abbrev pub node_on : {K V : Type 0} → Side → Item K V → Tree K V → Tree K V → Tree K V
+node_on Left x near far = node x near far
+node_on Right x near far = node x far near
+
+abbrev pub row_on : {K V : Type 0} → Side → List (Item K V) → Item K V → List (Item K V) → List (Item K V)
+row_on Left near x far = near ++ x ∷ far
+row_on Right near x far = far ++ x ∷ near
+
+abbrev pub RoomOn : {K V : Type 0} → Side → List (Node K V) → Item K V → ℕ → ℕ → Tree K V → Tree K V → Type 0
+RoomOn Left xs x near far n f = Room xs x (links_of Left near far) n f
+RoomOn Right xs x near far n f = Room xs x (links_of Right near far) f n
+
+abbrev pub JoinedOn : {K V : Type 0} → Side → List (Node K V) → List (Node K V) → ℕ → Item K V → Tree K V → Tree K V → Type 0
+JoinedOn Left xs ys link x n f = Joined xs ys link x n f
+JoinedOn Right xs ys link x n f = Joined xs ys link x f n
 
 -- what a test of two read heights says of the trees
 pub no_taller : (a b x y : ℕ) → a ≡ x → b ≡ y → a ≤ b → x ≤ y
@@ -14,9 +31,6 @@ no_taller a b x y e f h = omega arith
 
 pub taller : (a b x y : ℕ) → a ≡ x → b ≡ y → b < a → y < x
 taller a b x y e f h = omega arith
-
-pub two_taller : (a b x y : ℕ) → a ≡ x → b ≡ y → b + 1 < a → y + 1 < x
-two_taller a b x y e f h = omega arith
 
 pub one_taller : (a b x y : ℕ) → a ≡ x → b ≡ y → a ≤ b + 1 → x ≤ y + 1
 one_taller a b x y e f h = omega arith
@@ -62,14 +76,22 @@ module _ {K V : Type 0} where
   joined_kept Left xs ys i x n f j = j.kept
   joined_kept Right xs ys i x n f j = j.kept
 
-  -- what is said of one side, said of the other
-  pub room_swap : (s : Side) (xs : List (Node K V)) (x : Item K V) (near far : ℕ) (n f : Tree K V) → RoomOn s xs x near far n f → RoomOn (across s) xs x far near f n
-  room_swap Left xs x near far n f r = r
-  room_swap Right xs x near far n f r = r
+  -- from the left and the right to a side and the other one, and back
+  pub entered : (s o : Side) (xs : List (Node K V)) (x : Item K V) (links : Links) (near far : ℕ) (l r : Tree K V) → o ≡ across s → near ≡ link_on s links → far ≡ link_on o links → Room xs x links l r → RoomOn s xs x near far (tree_on s l r) (tree_on (across s) l r)
+  entered Left o xs x links near far l r e a b room = rw (a, b, e) room
+  entered Right o xs x links near far l r e a b room = rw (a, b, e) room
 
-  pub row_swap : (s : Side) (x : Item K V) (a b : List (Item K V)) → row_on (across s) b x a ≡ row_on s a x b
-  row_swap Left x a b = refl
-  row_swap Right x a b = refl
+  pub left_at : (s : Side) (xs : List (Node K V)) (x : Item K V) (links : Links) (near far : ℕ) (n f : Tree K V) → links ≡ links_of s near far → RoomOn s xs x near far n f → Room xs x links (tree_on s n f) (tree_on (across s) n f)
+  left_at Left xs x links near far n f e room = rw e room
+  left_at Right xs x links near far n f e room = rw e room
+
+  pub joined_on : (s : Side) (xs ys : List (Node K V)) (i : ℕ) (x : Item K V) (n f : Tree K V) → Joined xs ys i x (tree_on s n f) (tree_on (across s) n f) → JoinedOn s xs ys i x n f
+  joined_on Left xs ys i x n f j = j
+  joined_on Right xs ys i x n f j = j
+
+  pub mended_on : (s : Side) (xs ys : List (Node K V)) (i : ℕ) (x : Item K V) (l r : Tree K V) (high : ℕ) → Mended xs ys i (row_on s (inorder (tree_on s l r)) x (inorder (tree_on (across s) l r))) high → Mended xs ys i (inorder l ++ x ∷ inorder r) high
+  mended_on Left xs ys i x l r high m = m
+  mended_on Right xs ys i x l r high m = m
 
   pub row_is : (s : Side) (x : Item K V) (n f : Tree K V) → inorder (node_on s x n f) ≡ row_on s (inorder n) x (inorder f)
   row_is Left x n f = refl
@@ -86,9 +108,6 @@ module _ {K V : Type 0} where
   pub uses_row : (s : Side) (j : ℕ) (x : Item K V) (a b : List (Item K V)) → uses j (row_on s a x b) ≡ uses j a + one j x.at + uses j b
   uses_row Left j x a b = omega (arith, uses_node j x a b)
   uses_row Right j x a b = omega (arith, uses_node j x b a)
-
-  pub off_row : (s : Side) (j : ℕ) (a : List (Item K V)) (x : Item K V) (b : List (Item K V)) → uses j (row_on s a x b) ≡ 0 → j ≢ x.at
-  off_row s j a x b off e = omega (arith, off, uses_row s j x a b, ap (λ (q : ℕ). one q x.at) e, one_at x.at)
 
   pub avl_on : (s : Side) (x : Item K V) (n f : Tree K V) → Near (tall n) (tall f) → Avl n → Avl f → Avl (node_on s x n f)
   avl_on Left x n f near p q = (near, p, q)

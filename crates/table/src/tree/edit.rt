@@ -10,7 +10,7 @@ use super::balance::{balance, join, read};
 use super::path::{climb, left_end, seek};
 use crate::key::Key;
 use crate::node::{Item, NONE, Node};
-use crate::side::Side;
+use crate::side::Links;
 
 // A node that was taken out, and the root of what is left of the tree.
 #[derive(Clone, Copy)]
@@ -33,7 +33,11 @@ pub(crate) fn insert<K: Key, V: Copy>(
     if place.link != NONE {
         return None;
     }
-    let new = join(nodes, item, NONE, NONE);
+    let ends = Links {
+        left: NONE,
+        right: NONE,
+    };
+    let new = join(nodes, item, ends);
     Some(climb(nodes, place.path, new))
 }
 
@@ -60,7 +64,11 @@ fn lift<K: Copy, V: Copy>(nodes: &mut [Node<K, V>], root: u16) -> u16
     } else {
         let min = take_min(nodes, right);
         let item = read(nodes, min.at).item(min.at);
-        balance(nodes, Side::Right, item, min.rest, left)
+        let links = Links {
+            left,
+            right: min.rest,
+        };
+        balance(nodes, item, links)
     }
 }
 

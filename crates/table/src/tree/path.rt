@@ -9,7 +9,7 @@ ghost use Rattle.table.specs.Remove.{Stem, Leftward, LeftEnd};
 use super::balance::{balance, read};
 use crate::key::Key;
 use crate::node::{NONE, Node};
-use crate::side::Side;
+use crate::side::{Links, Side};
 use arrayvec::ArrayVec;
 
 // One step of a way down: the node that it leaves, and to which side.
@@ -43,7 +43,7 @@ pub(crate) fn climb<K: Copy, V: Copy>(nodes: &mut [Node<K, V>], path: Path, link
         let n = read(nodes, step.at);
         let other = n.child(step.side.other());
         let item = n.item(step.at);
-        sub = balance(nodes, step.side, item, sub, other);
+        sub = balance(nodes, item, Links::of(step.side, sub, other));
     }
     sub
 }

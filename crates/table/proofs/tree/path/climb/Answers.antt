@@ -15,13 +15,13 @@ pub balance-sub-requires : goal.balance-sub-requires
 balance-sub-requires g c =
     let p = c.loop-step.invariant c.requires.0 c.requires.1 c.requires.2 c.requires.3 in
     let k = ready _ _ _ _ _ _ _ p _ c.in-Some.ensures.items _ _ c.read-n.ensures (c.child-other.ensures ∙ ap (λ (q : Side). child_on q c.read-n.result.now) c.other.ensures) _ c.item-item.ensures in
-    (p.tree, k.o, k.room, k.uneven)
+    (_, _, k.room _ c.of.ensures, k.uneven)
 
 pub loop-step-preserved : goal.loop-step-preserved
 loop-step-preserved g c = λ fs t h cl.
     let p = c.loop-step.invariant fs t h cl in
     let k = ready _ _ _ _ _ _ _ p _ c.in-Some.ensures.items _ _ c.read-n.ensures (c.child-other.ensures ∙ ap (λ (q : Side). child_on q c.read-n.result.now) c.other.ensures) _ c.item-item.ensures in
-    k.next _ _ (c.balance-sub.ensures p.tree k.o k.room k.uneven)
+    k.next _ _ (c.balance-sub.ensures _ _ (k.room _ c.of.ensures) k.uneven)
 
 pub returns : goal.returns
 returns g c = λ fs t h cl. done _ _ _ _ _ _ (emptied _ (λ more. both_ways false refl (c.in_default.ensures.variant.1 more))) (c.loop-step.invariant fs t h cl)
