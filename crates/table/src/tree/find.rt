@@ -1,5 +1,6 @@
-// Searches that change nothing. They are loops over links, of which each is read at the one
-// before, and a link is answered as the records have it.
+// Searches that change nothing. They are loops over links, and a link is answered as the records have it. In `right_end`
+// `successors(..).last()` was tried: the library counts `successors` as endless, and `last` must prove ⊥. Cut off by `take` it is no
+// plainer than the loop: it names a number of links, owes that the way has no more, and owes each read at any state of the iterator.
 ghost use Rattle.std.specs.Prelude.{◌≡◌};
 ghost use Rattle.table.specs.Tree.{Tree, inorder};
 ghost use Rattle.table.specs.Search.{Whole};

@@ -1,5 +1,6 @@
-// Ways through a tree: down from the root, noted step by step, and back up. The ways down are loops over links, of
-// which each is read at the one before.
+// Ways through a tree: down from the root, noted step by step, and back up. The ways down are loops over links. In `left_end` a `for`
+// over `successors` was tried: the loop still keeps the link before, reads a left link at two places, and its proof did not close
+// (`loop-next-init`, that the closure may be called after any calls).
 ghost use Rattle.std.specs.Prelude.{◌≡◌, ℕ, ◌≤◌, List, ◌++◌};
 ghost use Rattle.table.specs.Tree.{Tree, tall, inorder};
 ghost use Rattle.table.specs.Path.{Frame, Climb, Climbed, front, back, top};
