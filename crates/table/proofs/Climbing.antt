@@ -6,9 +6,9 @@ use Rattle.std.proofs.lemmas.List.{same_from_push}
 use Rattle.std.proofs.lemmas.Option.{slice_get_within}
 use Rattle.table.specs.declared.node.Node.{Node}
 use Rattle.table.specs.declared.tree.path.Step.{Step}
-use Rattle.table.specs.Side.{Side, Left, Right, Links, across, links_of}
+use Rattle.table.specs.Side.{Side, Left, Right, Links, across, links_of, link_on}
 use Rattle.table.specs.Tree.{Item, Tree, ptr, tall, inorder, one, uses, Near}
-use Rattle.table.specs.Edit.{item, Once, Room, Uneven, Mended, Balanced, child_on, tree_on}
+use Rattle.table.specs.Edit.{item, Once, Room, Uneven, Mended, Balanced, tree_on}
 use Rattle.table.specs.Path.{Frame, on, front, back, top, Along, steps, Climb, Climbed, Progress}
 use Rattle.table.proofs.Model.{uses_append, uses_node, one_at, rep_frame, same_some}
 use Rattle.table.proofs.Turn.{node_on, row_on, RoomOn, placed, left_at, row_is, uses_row}
@@ -70,7 +70,7 @@ module _ {K V : Type 0} where
     pub rest : List (Frame K V)
     pub is : fs ≡ on step.side (item step.at n.key n.value) o ∷ rest
     pub noted : path ≡ steps rest
-    pub side : child_on (across step.side) n ≡ ptr o
+    pub side : link_on (across step.side) n.links ≡ ptr o
 
   module _ (xs : List (Node K V)) (path : List Step) (step : Step) where
     no_step : path ++ step ∷ [] ≡ [] → ⊥
@@ -89,7 +89,7 @@ module _ {K V : Type 0} where
         let same_side : step.side ≡ s = ap (λ (q : Step). q.side) st.1 in
         let m : n ≡ h.1.0 = same_some _ _ (sym read ∙ ap (slice_get xs) at ∙ h.1.1) in
         let y : item step.at n.key n.value ≡ x = (λ a. item (at a) (m a).key (m a).value) ∙ h.1.2 in
-        record { o = o; rest = fs; is = λ a. on (sym same_side a) (sym y a) o ∷ fs; noted = st.0; side = (λ a. child_on (across (same_side a)) (m a)) ∙ h.1.3 }
+        record { o = o; rest = fs; is = λ a. on (sym same_side a) (sym y a) o ∷ fs; noted = st.0; side = (λ a. link_on (across (same_side a)) (m a).links) ∙ h.1.3 }
 
   module _ (xs : List (Node K V)) (path rest : List Step) (link : ℕ) (s : Side) (x : Item K V) (o : Tree K V) (fs : List (Frame K V)) (t : Tree K V) (h : ℕ) (noted : rest ≡ steps fs) (cl : Climb xs path link (on s x o ∷ fs) t h) where
     climb_uses : (j : ℕ) → uses j (front (on s x o ∷ fs) ++ (inorder t ++ back (on s x o ∷ fs))) ≡ uses j (front fs) + uses j (inorder t) + one j x.at + uses j (inorder o) + uses j (back fs)
@@ -161,7 +161,7 @@ module _ {K V : Type 0} where
     pub popped_within : step.at < length ys
     popped_within = step_within ys rest step p.fs p.climb.along (sym popped ∙ p.climb.noted)
 
-    pub ready : (n : Node K V) (other : ℕ) → slice_get ys step.at ≡ Some n → other ≡ child_on (across step.side) n → (y : Item K V) → y ≡ item step.at n.key n.value → Ready xs ys rest link other items high step.side y p.tree
+    pub ready : (n : Node K V) (other : ℕ) → slice_get ys step.at ≡ Some n → other ≡ link_on (across step.side) n.links → (y : Item K V) → y ≡ item step.at n.key n.value → Ready xs ys rest link other items high step.side y p.tree
     ready n other read side y y-is =
         let k = pop ys rest step p.fs n p.climb.along (sym popped ∙ p.climb.noted) read in
         let s = step.side in

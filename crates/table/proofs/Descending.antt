@@ -3,9 +3,9 @@ use Rattle.std.proofs.Common.{◌≡◌, ℕ, ◌+◌, ◌-◌, ◌<◌, ◌≤�
 use Rattle.std.specs.List.{slice_get}
 use Rattle.table.specs.declared.node.Node.{Node}
 use Rattle.table.specs.declared.tree.path.Step.{Step}
-use Rattle.table.specs.Side.{Side, Left, Right, across}
+use Rattle.table.specs.Side.{Side, Left, Right, across, link_on}
 use Rattle.table.specs.Tree.{Item, Tree, none, tall, inorder, Avl, Stands}
-use Rattle.table.specs.Edit.{item, child_on}
+use Rattle.table.specs.Edit.{item}
 use Rattle.table.specs.Path.{Frame, on, front, back, top, Lvl}
 use Rattle.table.specs.Pairs.{Each}
 use Rattle.table.specs.Search.{Sorted, Whole, Way, Walk, Descent}
@@ -47,8 +47,8 @@ module _ {K V : Type 0} (before : K → K → Bool) where
 
 module _ {K V : Type 0} where
   -- one step more, to the near side of a node
-  module _ (xs : List (Node K V)) (path : List Step) (link : ℕ) (t : Tree K V) (n : Node K V) (read : slice_get xs link ≡ Some n) (linkable : link < none) (fs : List (Frame K V)) (s : Side) (near far : Tree K V) (on_near : Stands xs (child_on s n) near) (on_far : Stands xs (child_on (across s) n) far) (w : Way xs path link t fs (node_on s (item link n.key n.value) near far)) where
-    pub way_on : Way xs (path ++ record { at = link; side = s } ∷ []) (child_on s n) t (on s (item link n.key n.value) far ∷ fs) near
+  module _ (xs : List (Node K V)) (path : List Step) (link : ℕ) (t : Tree K V) (n : Node K V) (read : slice_get xs link ≡ Some n) (linkable : link < none) (fs : List (Frame K V)) (s : Side) (near far : Tree K V) (on_near : Stands xs (link_on s n.links) near) (on_far : Stands xs (link_on (across s) n.links) far) (w : Way xs path link t fs (node_on s (item link n.key n.value) near far)) where
+    pub way_on : Way xs (path ++ record { at = link; side = s } ∷ []) (link_on s n.links) t (on s (item link n.key n.value) far ∷ fs) near
     way_on =
         let x : Item K V = item link n.key n.value in
         let step : Step = record { at = link; side = s } in
@@ -71,7 +71,7 @@ module _ {K V : Type 0} where
         let o = opened xs link n d.sub d.walk.way.stands some read in
         omega (arith, d.walk.way.space, ap tall o.is)
 
-    pub went_left : L n.key → ((y : K) → before n.key y ≡ true → L y) → Descent before E L xs (path ++ record { at = link; side = Left } ∷ []) n.left t
+    pub went_left : L n.key → ((y : K) → before n.key y ≡ true → L y) → Descent before E L xs (path ++ record { at = link; side = Left } ∷ []) n.links.left t
     went_left here more =
         let x : Item K V = item link n.key n.value in
         let o = opened xs link n d.sub d.walk.way.stands some read in
@@ -89,7 +89,7 @@ module _ {K V : Type 0} where
           };
         }
 
-    pub went_right : E n.key → ((y : K) → before y n.key ≡ true → E y) → Descent before E L xs (path ++ record { at = link; side = Right } ∷ []) n.right t
+    pub went_right : E n.key → ((y : K) → before y n.key ≡ true → E y) → Descent before E L xs (path ++ record { at = link; side = Right } ∷ []) n.links.right t
     went_right here more =
         let x : Item K V = item link n.key n.value in
         let o = opened xs link n d.sub d.walk.way.stands some read in

@@ -5,7 +5,7 @@ use Rattle.std.proofs.lemmas.Option.{slice_get_within}
 use Rattle.table.specs.declared.node.Node.{Node}
 use Rattle.table.specs.Side.{Side, Left, Right, Links, across, links_of, link_on}
 use Rattle.table.specs.Tree.{Item, Tree, node, none, tall, inorder, one, uses, Near, Avl, Stands}
-use Rattle.table.specs.Edit.{item, Room, Changed, Joined, Mended, Heavy, child_on, tree_on}
+use Rattle.table.specs.Edit.{item, Room, Changed, Joined, Mended, Heavy, tree_on}
 use Rattle.table.proofs.Model.{uses_node, one_at, rep_frame, opened, link_within, empty_tall}
 
 -- Of two trees the near one stands on a side, and the far one on the other.
@@ -130,8 +130,8 @@ module _ {K V : Type 0} where
     pub near : Tree K V
     pub far : Tree K V
     pub is : t ≡ node_on s (item link n.key n.value) near far
-    pub on_near : Stands xs (child_on s n) near
-    pub on_far : Stands xs (child_on (across s) n) far
+    pub on_near : Stands xs (link_on s n.links) near
+    pub on_far : Stands xs (link_on (across s) n.links) far
     pub linkable : link < none
     pub within : link < length xs
 
@@ -265,10 +265,10 @@ module _ {K V : Type 0} where
     pub top : (ys : List (Node K V)) (k : ℕ) → JoinedOn s xs ys k x i l → RoomOn s ys y outer k o (node_on s x i l)
     pub single : (ys zs : List (Node K V)) (k u : ℕ) → tall i ≤ tall o → JoinedOn s xs ys k x i l → JoinedOn s ys zs u y o (node_on s x i l) → Mended xs zs u (row_on s (inorder h) x (inorder l)) (tall h)
     pub inner_within : tall o < tall i → inner < length xs
-    pub double : tall o < tall i → (m : Node K V) → slice_get xs inner ≡ Some m → (near far : ℕ) → near ≡ child_on s m → far ≡ child_on (across s) m → (z : Item K V) → z ≡ item inner m.key m.value → Double s xs x y z outer near far light o h l
+    pub double : tall o < tall i → (m : Node K V) → slice_get xs inner ≡ Some m → (near far : ℕ) → near ≡ link_on s m.links → far ≡ link_on (across s) m.links → (z : Item K V) → z ≡ item inner m.key m.value → Double s xs x y z outer near far light o h l
 
   module _ (s : Side) (xs : List (Node K V)) (x : Item K V) (heavy light : ℕ) (n : Node K V) (h l : Tree K V) (room : RoomOn s xs x heavy light h l) (big : Heavy h l) (read : slice_get xs heavy ≡ Some n) where
-    at_top : (o i : Tree K V) → h ≡ node_on s (item heavy n.key n.value) o i → Stands xs (child_on s n) o → Stands xs (child_on (across s) n) i → heavy < none → Turning s xs x (item heavy n.key n.value) light (child_on s n) (child_on (across s) n) h l
+    at_top : (o i : Tree K V) → h ≡ node_on s (item heavy n.key n.value) o i → Stands xs (link_on s n.links) o → Stands xs (link_on (across s) n.links) i → heavy < none → Turning s xs x (item heavy n.key n.value) light (link_on s n.links) (link_on (across s) n.links) h l
     at_top o i is on-o on-i linkable =
         let y : Item K V = item heavy n.key n.value in
         let p = pieces s xs x heavy light h l room in
@@ -284,13 +284,13 @@ module _ {K V : Type 0} where
           i = i;
           on_outer = on-o;
           on_inner = on-i;
-          low = single_low s xs x y (child_on s n) light o l on-o p.on_far p.within p.linkable y-within linkable avl.1 big.avl_light (child_on (across s) n) i on-i avl.2 once avl.0 gap low;
-          top = single_top s xs x y (child_on s n) light o l on-o p.on_far p.within p.linkable y-within linkable avl.1 big.avl_light (child_on (across s) n) i on-i avl.2 once avl.0 gap low;
-          single = λ ys zs k u test j1 j2. back zs u (node_on s y o i) is (single_done s xs x y (child_on s n) light o l on-o p.on_far p.within p.linkable y-within linkable avl.1 big.avl_light (child_on (across s) n) i on-i avl.2 once avl.0 gap low ys zs k u test j1 j2);
-          inner_within = λ test. link_within xs (child_on (across s) n) i on-i (λ e. omega (arith, test, empty_tall xs (child_on (across s) n) i on-i e));
+          low = single_low s xs x y (link_on s n.links) light o l on-o p.on_far p.within p.linkable y-within linkable avl.1 big.avl_light (link_on (across s) n.links) i on-i avl.2 once avl.0 gap low;
+          top = single_top s xs x y (link_on s n.links) light o l on-o p.on_far p.within p.linkable y-within linkable avl.1 big.avl_light (link_on (across s) n.links) i on-i avl.2 once avl.0 gap low;
+          single = λ ys zs k u test j1 j2. back zs u (node_on s y o i) is (single_done s xs x y (link_on s n.links) light o l on-o p.on_far p.within p.linkable y-within linkable avl.1 big.avl_light (link_on (across s) n.links) i on-i avl.2 once avl.0 gap low ys zs k u test j1 j2);
+          inner_within = λ test. link_within xs (link_on (across s) n.links) i on-i (λ e. omega (arith, test, empty_tall xs (link_on (across s) n.links) i on-i e));
           double = λ test m e near far near-is far-is z-2 z-is.
-              let k = opened_on s xs (child_on (across s) n) m i on-i (λ e. omega (arith, test, empty_tall xs (child_on (across s) n) i on-i e)) e in
-              let z : Item K V = item (child_on (across s) n) m.key m.value in
+              let k = opened_on s xs (link_on (across s) n.links) m i on-i (λ e. omega (arith, test, empty_tall xs (link_on (across s) n.links) i on-i e)) e in
+              let z : Item K V = item (link_on (across s) n.links) m.key m.value in
               let inner-avl = avl_off s z k.near k.far (subst Avl k.is avl.2) in
               let inner-high : tall i ≡ max (tall k.near) (tall k.far) + 1 = ap tall k.is ∙ tall_on s z k.near k.far in
               let on-b : Stands xs near k.near = rw near-is k.on_near in
@@ -303,14 +303,14 @@ module _ {K V : Type 0} where
               rw z-is (record {
                 b = k.near;
                 c = k.far;
-                first = double_first s xs x y (child_on s n) light o l on-o p.on_far p.within p.linkable y-within linkable avl.1 big.avl_light z near far k.near k.far on-b on-c k.within k.linkable inner-avl.1 inner-avl.2 once-2 near-1 inner-avl.0 gap-2 low-2;
-                second = double_second s xs x y (child_on s n) light o l on-o p.on_far p.within p.linkable y-within linkable avl.1 big.avl_light z near far k.near k.far on-b on-c k.within k.linkable inner-avl.1 inner-avl.2 once-2 near-1 inner-avl.0 gap-2 low-2;
-                third = double_third s xs x y (child_on s n) light o l on-o p.on_far p.within p.linkable y-within linkable avl.1 big.avl_light z near far k.near k.far on-b on-c k.within k.linkable inner-avl.1 inner-avl.2 once-2 near-1 inner-avl.0 gap-2 low-2;
-                done = λ ys zs ws a b u j1 j2 j3. back ws u (node_on s y o (node_on s z k.near k.far)) is-2 (double_done s xs x y (child_on s n) light o l on-o p.on_far p.within p.linkable y-within linkable avl.1 big.avl_light z near far k.near k.far on-b on-c k.within k.linkable inner-avl.1 inner-avl.2 once-2 near-1 inner-avl.0 gap-2 low-2 ys zs ws a b u (omega (arith, test, inner-high)) j1 j2 j3);
+                first = double_first s xs x y (link_on s n.links) light o l on-o p.on_far p.within p.linkable y-within linkable avl.1 big.avl_light z near far k.near k.far on-b on-c k.within k.linkable inner-avl.1 inner-avl.2 once-2 near-1 inner-avl.0 gap-2 low-2;
+                second = double_second s xs x y (link_on s n.links) light o l on-o p.on_far p.within p.linkable y-within linkable avl.1 big.avl_light z near far k.near k.far on-b on-c k.within k.linkable inner-avl.1 inner-avl.2 once-2 near-1 inner-avl.0 gap-2 low-2;
+                third = double_third s xs x y (link_on s n.links) light o l on-o p.on_far p.within p.linkable y-within linkable avl.1 big.avl_light z near far k.near k.far on-b on-c k.within k.linkable inner-avl.1 inner-avl.2 once-2 near-1 inner-avl.0 gap-2 low-2;
+                done = λ ys zs ws a b u j1 j2 j3. back ws u (node_on s y o (node_on s z k.near k.far)) is-2 (double_done s xs x y (link_on s n.links) light o l on-o p.on_far p.within p.linkable y-within linkable avl.1 big.avl_light z near far k.near k.far on-b on-c k.within k.linkable inner-avl.1 inner-avl.2 once-2 near-1 inner-avl.0 gap-2 low-2 ys zs ws a b u (omega (arith, test, inner-high)) j1 j2 j3);
               });
         }
 
-    pub turning : (outer inner : ℕ) → outer ≡ child_on s n → inner ≡ child_on (across s) n → (y : Item K V) → y ≡ item heavy n.key n.value → Turning s xs x y light outer inner h l
+    pub turning : (outer inner : ℕ) → outer ≡ link_on s n.links → inner ≡ link_on (across s) n.links → (y : Item K V) → y ≡ item heavy n.key n.value → Turning s xs x y light outer inner h l
     turning outer inner e f y y-is =
         let k = opened_on s xs heavy n h (pieces s xs x heavy light h l room).on_near (heavy_link s xs x heavy light h l room big) read in
         rw (e, f, y-is) (at_top k.near k.far k.is k.on_near k.on_far k.linkable)

@@ -42,10 +42,6 @@ pub record Mended {K V : Type 0} (xs ys : List (Node K V)) (link : ℕ) (items :
   pub long : length ys ≡ length xs
   pub same : (j : ℕ) → uses j items ≡ 0 → slice_get ys j ≡ slice_get xs j
 
-abbrev pub child_on : {K V : Type 0} → Side → Node K V → ℕ
-child_on Left n = n.left
-child_on Right n = n.right
-
 abbrev pub tree_on : {K V : Type 0} → Side → Tree K V → Tree K V → Tree K V
 tree_on Left l r = l
 tree_on Right l r = r

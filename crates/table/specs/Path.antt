@@ -4,8 +4,8 @@ use Rattle.std.specs.List.{slice_get}
 use Rattle.table.specs.declared.node.Node.{Node}
 use Rattle.table.specs.declared.tree.path.Step.{Step}
 use Rattle.table.specs.Tree.{Item, Tree, none, ptr, tall, inorder, uses, Rep, Near, Avl, Stands}
-use Rattle.table.specs.Side.{Side, Left, Right, across}
-use Rattle.table.specs.Edit.{item, Once, child_on}
+use Rattle.table.specs.Side.{Side, Left, Right, across, link_on}
+use Rattle.table.specs.Edit.{item, Once}
 
 -- A node that the way leaves, to a side, with its other side. The deepest comes first.
 pub data Frame (K V : Type 0) : Type 0 where
@@ -36,7 +36,7 @@ Lvl (on s x o ∷ fs) h = Near h (tall o) × Avl o × Lvl fs (max h (tall o) + 1
 -- is left open.
 abbrev pub Along : {K V : Type 0} → List (Node K V) → List (Frame K V) → Type 0
 Along xs [] = Unit {0}
-Along {K} {V} xs (on s x o ∷ fs) = (x.at < none) × ((n : Node K V) × (slice_get xs x.at ≡ Some n) × (item x.at n.key n.value ≡ x) × (child_on (across s) n ≡ ptr o)) × Rep xs o × Along xs fs
+Along {K} {V} xs (on s x o ∷ fs) = (x.at < none) × ((n : Node K V) × (slice_get xs x.at ≡ Some n) × (item x.at n.key n.value ≡ x) × (link_on (across s) n.links ≡ ptr o)) × Rep xs o × Along xs fs
 
 -- the steps of the way, from the root down
 abbrev pub steps : {K V : Type 0} → List (Frame K V) → List Step

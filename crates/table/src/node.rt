@@ -1,8 +1,8 @@
 // The records of a table, and what a table answers.
 ghost use Rattle.std.specs.Prelude.{◌≡◌};
-ghost use Rattle.table.specs.Edit.{item, child_on};
+ghost use Rattle.table.specs.Edit.{item};
 
-use crate::side::Side;
+use crate::side::Links;
 
 // The link to no record. A number and no option: memory is fixed, and a record takes 24 bytes. An `Option<u16>` takes 4 bytes, with a
 // tag of its own, and so does an `Option<NonZeroU16>`; with links of either a record took 32, as measured by `size_of`.
@@ -16,8 +16,7 @@ pub(crate) const RECORDS: usize = 1024;
 pub(crate) struct Node<K, V> {
     pub(crate) key: K,
     pub(crate) value: V,
-    pub(crate) left: u16,
-    pub(crate) right: u16,
+    pub(crate) links: Links,
     pub(crate) height: u8,
 }
 
@@ -38,16 +37,6 @@ impl<K: Copy, V: Copy> Node<K, V> {
             at,
             key: self.key,
             value: self.value,
-        }
-    }
-
-    // The link of one side.
-    pub(crate) fn child(&self, side: Side) -> u16
-        ensures { result ≡ child_on side self.now }
-    {
-        match side {
-            Side::Left => self.left,
-            Side::Right => self.right,
         }
     }
 }

@@ -2,6 +2,8 @@
 ghost use Rattle.std.specs.Prelude.{◌≡◌};
 ghost use Rattle.table.specs.Side.{across, links_of, link_on};
 
+use crate::node::NONE;
+
 #[derive(Clone, Copy, PartialEq, Eq, Debug, Default)]
 pub(crate) enum Side {
     #[default]
@@ -29,6 +31,12 @@ pub(crate) struct Links {
 }
 
 impl Links {
+    // Links to no trees.
+    pub(crate) const NONE: Links = Links {
+        left: NONE,
+        right: NONE,
+    };
+
     // The near link on a side, and the far one on the other.
     pub(crate) fn of(side: Side, near: u16, far: u16) -> Links
         ensures { result ≡ links_of side near far }

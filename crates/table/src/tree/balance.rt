@@ -41,8 +41,7 @@ pub(crate) fn join<K: Copy, V: Copy>(
     nodes[item.at as usize] = Node {
         key: item.key,
         value: item.value,
-        left: links.left,
-        right: links.right,
+        links,
         height,
     };
     item.at
@@ -62,16 +61,16 @@ fn turn<K: Copy, V: Copy>(
     let heavy = links.on(side);
     let light = links.on(opposite);
     let top = read(nodes, heavy);
-    let outer = top.child(side);
-    let inner = top.child(opposite);
+    let outer = top.links.on(side);
+    let inner = top.links.on(opposite);
     let top_item = top.item(heavy);
     if height(nodes, inner) <= height(nodes, outer) {
         let low = join(nodes, item, Links::of(side, inner, light));
         join(nodes, top_item, Links::of(side, outer, low))
     } else {
         let mid = read(nodes, inner);
-        let near = mid.child(side);
-        let far = mid.child(opposite);
+        let near = mid.links.on(side);
+        let far = mid.links.on(opposite);
         let mid_item = mid.item(inner);
         let a = join(nodes, top_item, Links::of(side, outer, near));
         let b = join(nodes, item, Links::of(side, far, light));

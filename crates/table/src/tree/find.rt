@@ -29,10 +29,10 @@ pub(crate) fn around<K: Key, V: Copy>(nodes: &[Node<K, V>], root: u16, key: K) -
         let n = read(nodes, link);
         if n.key.precedes(key) {
             below = link;
-            link = n.right;
+            link = n.links.right;
         } else {
             from = link;
-            link = n.left;
+            link = n.links.left;
         }
     }
     Sides { below, from }
@@ -47,7 +47,7 @@ pub(crate) fn right_end<K: Key, V: Copy>(nodes: &[Node<K, V>], root: u16) -> u16
     let mut link = root;
     while link != NONE {
         end = link;
-        link = read(nodes, link).right;
+        link = read(nodes, link).links.right;
     }
     end
 }

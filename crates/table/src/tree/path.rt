@@ -42,7 +42,7 @@ pub(crate) fn climb<K: Copy, V: Copy>(nodes: &mut [Node<K, V>], path: Path, link
     let mut sub = link;
     while let Some(step) = path.pop() {
         let n = read(nodes, step.at);
-        let other = n.child(step.side.other());
+        let other = n.links.on(step.side.other());
         let item = n.item(step.at);
         sub = balance(nodes, item, Links::of(step.side, sub, other));
     }
@@ -63,13 +63,13 @@ pub(crate) fn seek<K: Key, V: Copy>(nodes: &[Node<K, V>], root: u16, key: K) -> 
                 at: link,
                 side: Side::Left,
             });
-            link = n.left;
+            link = n.links.left;
         } else if n.key.precedes(key) {
             path.push(Step {
                 at: link,
                 side: Side::Right,
             });
-            link = n.right;
+            link = n.links.right;
         } else {
             break;
         }
@@ -86,13 +86,13 @@ pub(crate) fn left_end<K: Copy, V: Copy>(nodes: &[Node<K, V>], root: u16) -> Pla
     let mut link = root;
     loop {
         let n = read(nodes, link);
-        if n.left == NONE {
+        if n.links.left == NONE {
             return Place { path, link };
         }
         path.push(Step {
             at: link,
             side: Side::Left,
         });
-        link = n.left;
+        link = n.links.left;
     }
 }

@@ -1,20 +1,20 @@
 -- `turn` makes the single turn where the inner side is no taller than the outer one, and else the double turn.
 use Rattle.std.proofs.Common.{ap, ◌∙◌}
-use Rattle.table.specs.Side.{Side, across}
+use Rattle.table.specs.Side.{Side, across, link_on}
 use Rattle.table.specs.Tree.{Tree}
-use Rattle.table.specs.Edit.{Room, Heavy, child_on, tree_on}
+use Rattle.table.specs.Edit.{Room, Heavy, tree_on}
 use Rattle.table.proofs.Turn.{Turning, entered, left_at, joined_on, mended_on, heavy_within, no_taller, taller, turning}
 use Rattle.table.proofs.tree.balance.turn.Goals as goal
 use Rattle.table.proofs.tree.balance.turn.Goals.{After-item-top_item}
 
 -- the parts of a heavy tree, once its top is read
-parts : (g : _) (c : After-item-top_item g) (l r : Tree g.row.K.Denot g.row.V.Denot) → Room c.args.nodes.now c.args.item c.args.links l r → Heavy (tree_on c.args.side l r) (tree_on (across c.args.side) l r) → Turning c.args.side c.args.nodes.now c.args.item c.item-top_item.result c.on-light.result c.child-outer.result c.child-inner.result (tree_on c.args.side l r) (tree_on (across c.args.side) l r)
+parts : (g : _) (c : After-item-top_item g) (l r : Tree g.row.K.Denot g.row.V.Denot) → Room c.args.nodes.now c.args.item c.args.links l r → Heavy (tree_on c.args.side l r) (tree_on (across c.args.side) l r) → Turning c.args.side c.args.nodes.now c.args.item c.item-top_item.result c.on-light.result c.on-outer.result c.on-inner.result (tree_on c.args.side l r) (tree_on (across c.args.side) l r)
 parts g c l r room big =
     let room-on = entered _ _ _ _ _ _ _ l r c.other-opposite.ensures c.on-heavy.ensures c.on-light.ensures room in
-    turning _ _ _ _ _ _ _ _ room-on big c.read-top.ensures _ _ c.child-outer.ensures (c.child-inner.ensures ∙ ap (λ (q : Side). child_on q c.read-top.result.now) c.other-opposite.ensures) _ c.item-top_item.ensures
+    turning _ _ _ _ _ _ _ _ room-on big c.read-top.ensures _ _ c.on-outer.ensures (c.on-inner.ensures ∙ ap (λ (q : Side). link_on q c.read-top.result.now.links) c.other-opposite.ensures) _ c.item-top_item.ensures
 
 -- and of the one that the caller has
-here : (g : _) (c : After-item-top_item g) → Turning c.args.side c.args.nodes.now c.args.item c.item-top_item.result c.on-light.result c.child-outer.result c.child-inner.result (tree_on c.args.side c.requires.0 c.requires.1) (tree_on (across c.args.side) c.requires.0 c.requires.1)
+here : (g : _) (c : After-item-top_item g) → Turning c.args.side c.args.nodes.now c.args.item c.item-top_item.result c.on-light.result c.on-outer.result c.on-inner.result (tree_on c.args.side c.requires.0 c.requires.1) (tree_on (across c.args.side) c.requires.0 c.requires.1)
 here g c = parts g c c.requires.0 c.requires.1 c.requires.2 c.requires.3
 
 pub read-top-requires : goal.read-top-requires
@@ -56,20 +56,20 @@ read-mid-requires g c =
 pub join-a-requires : goal.join-a-requires
 join-a-requires g c =
     let k = here g (goal.at.join-a-requires g c).After-item-top_item in
-    let d = k.double (taller _ _ _ _ (c.height.ensures k.i k.on_inner) (c.height-2.ensures k.o k.on_outer) c.if-height.false) _ c.read-mid.ensures _ _ c.child-near.ensures (c.child-far.ensures ∙ ap (λ (q : Side). child_on q c.read-mid.result.now) c.other-opposite.ensures) _ c.item-mid_item.ensures in
+    let d = k.double (taller _ _ _ _ (c.height.ensures k.i k.on_inner) (c.height-2.ensures k.o k.on_outer) c.if-height.false) _ c.read-mid.ensures _ _ c.on-near.ensures (c.on-far.ensures ∙ ap (λ (q : Side). link_on q c.read-mid.result.now.links) c.other-opposite.ensures) _ c.item-mid_item.ensures in
     (_, _, left_at _ _ _ _ _ _ _ _ c.of-else-height.ensures d.first)
 
 pub join-b-requires : goal.join-b-requires
 join-b-requires g c =
     let k = here g (goal.at.join-b-requires g c).After-item-top_item in
-    let d = k.double (taller _ _ _ _ (c.height.ensures k.i k.on_inner) (c.height-2.ensures k.o k.on_outer) c.if-height.false) _ c.read-mid.ensures _ _ c.child-near.ensures (c.child-far.ensures ∙ ap (λ (q : Side). child_on q c.read-mid.result.now) c.other-opposite.ensures) _ c.item-mid_item.ensures in
+    let d = k.double (taller _ _ _ _ (c.height.ensures k.i k.on_inner) (c.height-2.ensures k.o k.on_outer) c.if-height.false) _ c.read-mid.ensures _ _ c.on-near.ensures (c.on-far.ensures ∙ ap (λ (q : Side). link_on q c.read-mid.result.now.links) c.other-opposite.ensures) _ c.item-mid_item.ensures in
     let j = joined_on _ _ _ _ _ _ _ (c.join-a.ensures _ _ (left_at _ _ _ _ _ _ _ _ c.of-else-height.ensures d.first)) in
     (_, _, left_at _ _ _ _ _ _ _ _ c.of-else-height-2.ensures (d.second _ _ j))
 
 pub join-requires-else-height : goal.join-requires-else-height
 join-requires-else-height g c =
     let k = here g (goal.at.join-requires-else-height g c).After-item-top_item in
-    let d = k.double (taller _ _ _ _ (c.height.ensures k.i k.on_inner) (c.height-2.ensures k.o k.on_outer) c.if-height.false) _ c.read-mid.ensures _ _ c.child-near.ensures (c.child-far.ensures ∙ ap (λ (q : Side). child_on q c.read-mid.result.now) c.other-opposite.ensures) _ c.item-mid_item.ensures in
+    let d = k.double (taller _ _ _ _ (c.height.ensures k.i k.on_inner) (c.height-2.ensures k.o k.on_outer) c.if-height.false) _ c.read-mid.ensures _ _ c.on-near.ensures (c.on-far.ensures ∙ ap (λ (q : Side). link_on q c.read-mid.result.now.links) c.other-opposite.ensures) _ c.item-mid_item.ensures in
     let j = joined_on _ _ _ _ _ _ _ (c.join-a.ensures _ _ (left_at _ _ _ _ _ _ _ _ c.of-else-height.ensures d.first)) in
     let j2 = joined_on _ _ _ _ _ _ _ (c.join-b.ensures _ _ (left_at _ _ _ _ _ _ _ _ c.of-else-height-2.ensures (d.second _ _ j))) in
     (_, _, left_at _ _ _ _ _ _ _ _ c.of-else-height-3.ensures (d.third _ _ _ _ j j2))
@@ -77,7 +77,7 @@ join-requires-else-height g c =
 pub returns-else-height : goal.returns-else-height
 returns-else-height g c = λ l r room big.
     let k = parts g (goal.at.returns-else-height g c).After-item-top_item l r room big in
-    let d = k.double (taller _ _ _ _ (c.height.ensures k.i k.on_inner) (c.height-2.ensures k.o k.on_outer) c.if-height.false) _ c.read-mid.ensures _ _ c.child-near.ensures (c.child-far.ensures ∙ ap (λ (q : Side). child_on q c.read-mid.result.now) c.other-opposite.ensures) _ c.item-mid_item.ensures in
+    let d = k.double (taller _ _ _ _ (c.height.ensures k.i k.on_inner) (c.height-2.ensures k.o k.on_outer) c.if-height.false) _ c.read-mid.ensures _ _ c.on-near.ensures (c.on-far.ensures ∙ ap (λ (q : Side). link_on q c.read-mid.result.now.links) c.other-opposite.ensures) _ c.item-mid_item.ensures in
     let j = joined_on _ _ _ _ _ _ _ (c.join-a.ensures _ _ (left_at _ _ _ _ _ _ _ _ c.of-else-height.ensures d.first)) in
     let j2 = joined_on _ _ _ _ _ _ _ (c.join-b.ensures _ _ (left_at _ _ _ _ _ _ _ _ c.of-else-height-2.ensures (d.second _ _ j))) in
     let j3 = joined_on _ _ _ _ _ _ _ (c.join-else-height.ensures _ _ (left_at _ _ _ _ _ _ _ _ c.of-else-height-3.ensures (d.third _ _ _ _ j j2))) in
