@@ -111,7 +111,7 @@ module _ {K V : Type 0} where
       pub free : Free xs heads.unused t
       pub fewer : heads.len < 1024
       pub rest : List (Item K V)
-      pub next : (n : Node K V) → slice_get xs heads.unused ≡ Some n → (ys : List (Node K V)) (root : ℕ) (key : K) (value : V) (s : Absent before key (inorder t)) (b : Became before xs ys root (s.a ++ item heads.unused key value ∷ s.b)) → Holds before ys (record { root = root; unused = n.left; len = heads.len + 1 }) b.tree rest
+      pub next : (n : Node K V) → slice_get xs heads.unused ≡ Some n → (ys : List (Node K V)) (root : ℕ) (key : K) (value : V) (s : Absent before key (inorder t)) (b : Became before xs ys root (s.a ++ item heads.unused key value ∷ s.b)) → Holds before ys (record { root = root; unused = n.links.left; len = heads.len + 1 }) b.tree rest
 
     spare_at : (u : Item K V) (rest : List (Item K V)) → us ≡ u ∷ rest → heads.unused ≡ u.at → Spare
     spare_at u rest is place =
@@ -135,7 +135,7 @@ module _ {K V : Type 0} where
                 size = b.long ∙ h.size;
                 whole = b.whole;
                 chained = chain_frame xs ys rest (λ j m. same j m (low-rest j m)) chained.2;
-                begins = ap (λ (m : Node K V). m.left) (same_some n _ (sym read ∙ ap (slice_get xs) place ∙ chained.1));
+                begins = ap (λ (m : Node K V). m.links.left) (same_some n _ (sym read ∙ ap (slice_get xs) place ∙ chained.1));
                 shared = λ j low. uses_append j (inorder b.tree) rest ∙ (omega (arith, ap (uses j) b.order, items j, all j, h.shared j low));
                 count = ap (λ (q : ℕ). q + 1) h.count ∙ (omega (arith, ap length b.order, length-append s.a (x ∷ s.b), ap length s.parts, length-append s.a s.b));
               };

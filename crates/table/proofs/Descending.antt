@@ -1,15 +1,16 @@
 -- The way down.
-use Rattle.std.proofs.Common.{◌≡◌, ℕ, ◌+◌, ◌-◌, ◌<◌, ◌≤◌, Bool, true, false, not, ◌≢◌, List, [], ◌∷◌, ◌++◌, length, Some, sym, refl, ap, ◌∙◌, subst, append-nil, length-append, arith}
+use Rattle.std.proofs.Common.{◌≡◌, ℕ, ◌+◌, ◌-◌, ◌<◌, ◌≤◌, Bool, true, ◌≢◌, List, [], ◌∷◌, ◌++◌, length, Some, sym, refl, ap, ◌∙◌, subst, append-nil, length-append, arith}
 use Rattle.std.specs.List.{slice_get}
 use Rattle.table.specs.declared.node.Node.{Node}
 use Rattle.table.specs.declared.tree.path.Step.{Step}
+use Rattle.table.specs.Side.{Side, Left, Right, across, link_on}
 use Rattle.table.specs.Tree.{Item, Tree, none, tall, inorder, Avl, Stands}
-use Rattle.table.specs.Edit.{item, node_on, child_on}
+use Rattle.table.specs.Edit.{item}
 use Rattle.table.specs.Path.{Frame, on, front, back, top, Lvl}
 use Rattle.table.specs.Pairs.{Each}
 use Rattle.table.specs.Search.{Sorted, Whole, Way, Walk, Descent}
 use Rattle.table.proofs.Model.{opened}
-use Rattle.table.proofs.Turn.{tall_on, avl_off}
+use Rattle.table.proofs.Turn.{node_on, tall_on, avl_off}
 use Rattle.table.proofs.Climbing.{frame_row}
 
 module _ {A : Type 0} where
@@ -46,11 +47,11 @@ module _ {K V : Type 0} (before : K → K → Bool) where
 
 module _ {K V : Type 0} where
   -- one step more, to the near side of a node
-  module _ (xs : List (Node K V)) (path : List Step) (link : ℕ) (t : Tree K V) (n : Node K V) (read : slice_get xs link ≡ Some n) (linkable : link < none) (fs : List (Frame K V)) (s : Bool) (near far : Tree K V) (on_near : Stands xs (child_on s n) near) (on_far : Stands xs (child_on (not s) n) far) (w : Way xs path link t fs (node_on s (item link n.key n.value) near far)) where
-    pub way_on : Way xs (path ++ record { at = link; left = s } ∷ []) (child_on s n) t (on s (item link n.key n.value) far ∷ fs) near
+  module _ (xs : List (Node K V)) (path : List Step) (link : ℕ) (t : Tree K V) (n : Node K V) (read : slice_get xs link ≡ Some n) (linkable : link < none) (fs : List (Frame K V)) (s : Side) (near far : Tree K V) (on_near : Stands xs (link_on s n.links) near) (on_far : Stands xs (link_on (across s) n.links) far) (w : Way xs path link t fs (node_on s (item link n.key n.value) near far)) where
+    pub way_on : Way xs (path ++ record { at = link; side = s } ∷ []) (link_on s n.links) t (on s (item link n.key n.value) far ∷ fs) near
     way_on =
         let x : Item K V = item link n.key n.value in
-        let step : Step = record { at = link; left = s } in
+        let step : Step = record { at = link; side = s } in
         let high = tall_on s x near far in
         let avl = avl_off s x near far w.avl in
         record {
@@ -70,7 +71,7 @@ module _ {K V : Type 0} where
         let o = opened xs link n d.sub d.walk.way.stands some read in
         omega (arith, d.walk.way.space, ap tall o.is)
 
-    pub went_left : L n.key → ((y : K) → before n.key y ≡ true → L y) → Descent before E L xs (path ++ record { at = link; left = true } ∷ []) n.left t
+    pub went_left : L n.key → ((y : K) → before n.key y ≡ true → L y) → Descent before E L xs (path ++ record { at = link; side = Left } ∷ []) n.links.left t
     went_left here more =
         let x : Item K V = item link n.key n.value in
         let o = opened xs link n d.sub d.walk.way.stands some read in
@@ -81,14 +82,14 @@ module _ {K V : Type 0} where
           fs = _;
           sub = o.l;
           walk = record {
-            way = way_on xs path link t n read o.linkable d.fs true o.l o.r o.on_left o.on_right w.way;
+            way = way_on xs path link t n read o.linkable d.fs Left o.l o.r o.on_left o.on_right w.way;
             sorted = k.left;
             early = w.early;
             late = (here, each_append P (inorder o.r) (back d.fs) (each_map _ P (inorder o.r) (λ y h. more y.key h) k.above) w.late);
           };
         }
 
-    pub went_right : E n.key → ((y : K) → before y n.key ≡ true → E y) → Descent before E L xs (path ++ record { at = link; left = false } ∷ []) n.right t
+    pub went_right : E n.key → ((y : K) → before y n.key ≡ true → E y) → Descent before E L xs (path ++ record { at = link; side = Right } ∷ []) n.links.right t
     went_right here more =
         let x : Item K V = item link n.key n.value in
         let o = opened xs link n d.sub d.walk.way.stands some read in
@@ -99,7 +100,7 @@ module _ {K V : Type 0} where
           fs = _;
           sub = o.r;
           walk = record {
-            way = way_on xs path link t n read o.linkable d.fs false o.r o.l o.on_right o.on_left w.way;
+            way = way_on xs path link t n read o.linkable d.fs Right o.r o.l o.on_right o.on_left w.way;
             sorted = k.right;
             early = each_append P (front d.fs) (inorder o.l ++ x ∷ []) w.early (each_append P (inorder o.l) (x ∷ []) (each_map _ P (inorder o.l) (λ y h. more y.key h) k.below) (here, tt));
             late = w.late;

@@ -18,7 +18,7 @@ module _ {K V : Type 0} where
   empty_leaf xs link leaf s e = refl
   empty_leaf xs link (node x l r) s e = absurd (omega (arith, s.root, s.held.0, e))
 
-  pub lone : (xs : List (Node K V)) (x : Item K V) (t : Tree K V) → Free xs x.at t → Room xs x none none leaf leaf
+  pub lone : (xs : List (Node K V)) (x : Item K V) (t : Tree K V) → Free xs x.at t → Room xs x (record { left = none; right = none }) leaf leaf
   lone xs x t f =
       record {
         on_left = record { held = tt; root = refl };

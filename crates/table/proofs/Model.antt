@@ -5,6 +5,7 @@ use Rattle.std.proofs.lemmas.List.{length-set}
 use Rattle.std.proofs.lemmas.Bool.Decides.{nat_tests}
 use Rattle.std.proofs.lemmas.Option.{slice_get_within}
 use Rattle.table.specs.declared.node.Node.{Node}
+use Rattle.table.specs.Side.{Links}
 use Rattle.table.specs.Tree.{Item, Tree, leaf, node, none, tall, inorder, one, uses, cell, Rep, Stands}
 use Rattle.table.specs.Edit.{item, Room, Joined}
 
@@ -58,8 +59,8 @@ module _ {K V : Type 0} where
     pub l : Tree K V
     pub r : Tree K V
     pub is : t ≡ node (item link n.key n.value) l r
-    pub on_left : Stands xs n.left l
-    pub on_right : Stands xs n.right r
+    pub on_left : Stands xs n.links.left l
+    pub on_right : Stands xs n.links.right r
     pub linkable : link < none
 
   pub opened : (xs : List (Node K V)) (link : ℕ) (n : Node K V) (t : Tree K V) → Stands xs link t → link ≢ none → slice_get xs link ≡ Some n → Opened xs link n t
@@ -71,8 +72,8 @@ module _ {K V : Type 0} where
         l = l;
         r = r;
         is = ap (λ (y : Item K V). node y l r) (λ i. record { at = at i; key = (sym got i).key; value = (sym got i).value });
-        on_left = record { held = s.held.2; root = ap (λ (m : Node K V). m.left) got };
-        on_right = record { held = s.held.3; root = ap (λ (m : Node K V). m.right) got };
+        on_left = record { held = s.held.2; root = ap (λ (m : Node K V). m.links.left) got };
+        on_right = record { held = s.held.3; root = ap (λ (m : Node K V). m.links.right) got };
         linkable = rw (← at) s.held.0;
       }
 
@@ -95,12 +96,12 @@ module _ {K V : Type 0} where
   tall_read xs link n (node x l r) s ne e = ap (λ (m : Node K V). m.height) (same_some n (cell x l r) (sym e ∙ ap (slice_get xs) s.root ∙ s.held.1))
 
   -- the record that joins two trees
-  pub joined : (xs : List (Node K V)) (x : Item K V) (left right h : ℕ) (l r : Tree K V) → Room xs x left right l r → h ≡ max (tall l) (tall r) + 1 → Joined xs (set xs x.at (record { key = x.key; value = x.value; left = left; right = right; height = h })) x.at x l r
-  joined xs x left right h l r room tall-is =
-      let n : Node K V = record { key = x.key; value = x.value; left = left; right = right; height = h } in
+  pub joined : (xs : List (Node K V)) (x : Item K V) (links : Links) (h : ℕ) (l r : Tree K V) → Room xs x links l r → h ≡ max (tall l) (tall r) + 1 → Joined xs (set xs x.at (record { key = x.key; value = x.value; links = links; height = h })) x.at x l r
+  joined xs x links h l r room tall-is =
+      let n : Node K V = record { key = x.key; value = x.value; links = links; height = h } in
       let ys : List (Node K V) = set xs x.at n in
       let same : (j : ℕ) → j ≢ x.at → slice_get ys j ≡ slice_get xs j = λ j ne. nth_set_other xs x.at j n ne in
-      let full : n ≡ cell x l r = cc (room.on_left.root, room.on_right.root, tall-is) in
+      let full : n ≡ cell x l r = λ i. record { key = x.key; value = x.value; links = record { left = room.on_left.root i; right = room.on_right.root i }; height = tall-is i } in
       let off : (j : ℕ) → uses j (inorder l ++ x ∷ inorder r) ≤ 1 = room.once in
       let here : (j : ℕ) → j ≡ x.at → one j x.at ≡ 1 = λ j e. rw e (one_at x.at) in
       let keep_left : (j : ℕ) → 1 ≤ uses j (inorder l) → slice_get ys j ≡ slice_get xs j = λ j u. same j (λ e. omega (arith, here j e, off j, uses_node j x (inorder l) (inorder r))) in

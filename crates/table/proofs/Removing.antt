@@ -1,9 +1,10 @@
 -- Nodes that are taken out.
-use Rattle.std.proofs.Common.{◌≡◌, ℕ, ◌+◌, ◌<◌, ◌≤◌, max, Bool, true, false, ◌≢◌, List, [], ◌∷◌, ◌++◌, length, Some, sym, refl, ap, ◌∙◌, subst, append_assoc, append-nil, arith}
+use Rattle.std.proofs.Common.{◌≡◌, ℕ, ◌+◌, ◌<◌, ◌≤◌, max, Bool, true, ◌≢◌, List, [], ◌∷◌, ◌++◌, length, Some, sym, refl, ap, ◌∙◌, subst, append_assoc, append-nil, arith}
 use Rattle.std.specs.List.{slice_get}
 use Rattle.std.proofs.lemmas.Option.{slice_get_within}
 use Rattle.table.specs.declared.node.Node.{Node}
 use Rattle.table.specs.declared.tree.path.Step.{Step}
+use Rattle.table.specs.Side.{Left}
 use Rattle.table.specs.Tree.{Item, Tree, leaf, node, none, tall, inorder, one, uses, Avl, Stands}
 use Rattle.table.specs.Edit.{item, Once, Room, Uneven, Balanced}
 use Rattle.table.specs.Path.{Frame, front, back, top, Climb, Climbed}
@@ -26,11 +27,11 @@ module _ {K V : Type 0} where
         let o = opened xs link n lw.sub lw.way.stands lw.some read in
         omega (arith, lw.way.space, ap tall o.is)
 
-    pub left_step : n.left ≢ none → Leftward xs (path ++ record { at = link; left = true } ∷ []) n.left t
+    pub left_step : n.links.left ≢ none → Leftward xs (path ++ record { at = link; side = Left } ∷ []) n.links.left t
     left_step more =
         let o = opened xs link n lw.sub lw.way.stands lw.some read in
         let w = subst (λ (s : Tree K V). Way xs path link t lw.fs s) o.is lw.way in
-        record { fs = _; sub = o.l; way = way_on xs path link t n read o.linkable lw.fs true o.l o.r o.on_left o.on_right w; some = more; first = lw.first }
+        record { fs = _; sub = o.l; way = way_on xs path link t n read o.linkable lw.fs Left o.l o.r o.on_left o.on_right w; some = more; first = lw.first }
 
   -- a way that a call has noted
   pub left_noted : (xs : List (Node K V)) (path path-2 : List Step) (link : ℕ) (t : Tree K V) → path-2 ≡ path → Leftward xs path link t → Leftward xs path-2 link t
@@ -39,11 +40,11 @@ module _ {K V : Type 0} where
   -- the first node, with only a right side
   pub record MinReady (xs : List (Node K V)) (path : List Step) (link : ℕ) (t : Tree K V) (n : Node K V) (fs : List (Frame K V)) : Type 0 where
     pub rest : Tree K V
-    pub climb : Climb xs path n.right fs rest (max 0 (tall rest) + 1)
+    pub climb : Climb xs path n.links.right fs rest (max 0 (tall rest) + 1)
     pub next : (ys : List (Node K V)) (i : ℕ) → Climbed xs ys i (front fs ++ (inorder rest ++ back fs)) (top fs (max 0 (tall rest) + 1)) → MinTaken xs ys link i t
 
   module _ (xs : List (Node K V)) (path : List Step) (link root : ℕ) (t : Tree K V) (n : Node K V) (stem : Stem xs root t) (read : slice_get xs link ≡ Some n) where
-    min_at : (fs : List (Frame K V)) (r : Tree K V) → Stands xs n.right r → front fs ≡ [] → Way xs path link t fs (node (item link n.key n.value) leaf r) → MinReady xs path link t n fs
+    min_at : (fs : List (Frame K V)) (r : Tree K V) → Stands xs n.links.right r → front fs ≡ [] → Way xs path link t fs (node (item link n.key n.value) leaf r) → MinReady xs path link t n fs
     min_at fs r on_right first w =
         let x : Item K V = item link n.key n.value in
         let all : (j : ℕ) → uses j (front fs) + one j link + uses j (inorder r) + uses j (back fs) ≡ uses j (inorder t) = λ j. omega (arith, ap (uses j) w.order, uses_node j x (front fs) (inorder r ++ back fs), uses_append j (inorder r) (back fs)) in
@@ -77,17 +78,17 @@ module _ {K V : Type 0} where
               };
         }
 
-    pub min_ready : (lw : Leftward xs path link t) → n.left ≡ none → MinReady xs path link t n lw.fs
+    pub min_ready : (lw : Leftward xs path link t) → n.links.left ≡ none → MinReady xs path link t n lw.fs
     min_ready lw e =
         let o = opened xs link n lw.sub lw.way.stands lw.some read in
-        let is : lw.sub ≡ node (item link n.key n.value) leaf o.r = o.is ∙ ap (λ (l : Tree K V). node (item link n.key n.value) l o.r) (empty_leaf xs n.left o.l o.on_left e) in
+        let is : lw.sub ≡ node (item link n.key n.value) leaf o.r = o.is ∙ ap (λ (l : Tree K V). node (item link n.key n.value) l o.r) (empty_leaf xs n.links.left o.l o.on_left e) in
         min_at lw.fs o.r o.on_right lw.first (subst (λ (s : Tree K V). Way xs path link t lw.fs s) is lw.way)
 
   module _ (xs : List (Node K V)) (root : ℕ) (t : Tree K V) (n : Node K V) (stem : Stem xs root t) (read : slice_get xs root ≡ Some n) where
-    pub lift_leaf : n.right ≡ none → Lifted xs xs root n.left t
+    pub lift_leaf : n.links.right ≡ none → Lifted xs xs root n.links.left t
     lift_leaf e =
         let o = opened xs root n t stem.stands stem.some read in
-        let is : t ≡ node (item root n.key n.value) o.l leaf = o.is ∙ ap (λ (r : Tree K V). node (item root n.key n.value) o.l r) (empty_leaf xs n.right o.r o.on_right e) in
+        let is : t ≡ node (item root n.key n.value) o.l leaf = o.is ∙ ap (λ (r : Tree K V). node (item root n.key n.value) o.l r) (empty_leaf xs n.links.right o.r o.on_right e) in
         let avl = subst Avl is stem.avl in
         record {
           n = n;
@@ -106,12 +107,12 @@ module _ {K V : Type 0} where
 
     -- the right side has a node
     pub record RightReady (l r : Tree K V) : Type 0 where
-      pub stem_right : Stem xs n.right r
-      pub room : (ys : List (Node K V)) (at rest : ℕ) (m : Node K V) (k : MinTaken xs ys at rest r) → slice_get ys at ≡ Some m → Room ys (item at m.key m.value) n.left rest l k.tree
-      pub uneven : (ys : List (Node K V)) (at rest : ℕ) (k : MinTaken xs ys at rest r) → Uneven k.tree l
-      pub next : (ys zs : List (Node K V)) (at rest i : ℕ) (m : Node K V) (k : MinTaken xs ys at rest r) → slice_get ys at ≡ Some m → Balanced false ys zs i (item at m.key m.value) k.tree l → Lifted xs zs root i t
+      pub stem_right : Stem xs n.links.right r
+      pub room : (ys : List (Node K V)) (at rest : ℕ) (m : Node K V) (k : MinTaken xs ys at rest r) → slice_get ys at ≡ Some m → Room ys (item at m.key m.value) (record { left = n.links.left; right = rest }) l k.tree
+      pub uneven : (ys : List (Node K V)) (at rest : ℕ) (k : MinTaken xs ys at rest r) → Uneven l k.tree
+      pub next : (ys zs : List (Node K V)) (at rest i : ℕ) (m : Node K V) (k : MinTaken xs ys at rest r) → slice_get ys at ≡ Some m → Balanced ys zs i (item at m.key m.value) l k.tree → Lifted xs zs root i t
 
-    lift_at : (l r : Tree K V) → t ≡ node (item root n.key n.value) l r → n.right ≢ none → Stands xs n.left l → Stands xs n.right r → RightReady l r
+    lift_at : (l r : Tree K V) → t ≡ node (item root n.key n.value) l r → n.links.right ≢ none → Stands xs n.links.left l → Stands xs n.links.right r → RightReady l r
     lift_at l r is some on_left on_right =
         let x : Item K V = item root n.key n.value in
         let avl = subst Avl is stem.avl in
@@ -131,7 +132,7 @@ module _ {K V : Type 0} where
                 low_left = omega (arith, stem.low);
                 low_right = omega (arith, stem.low, k.near);
               };
-          uneven = λ ys at rest k. record { avl_near = k.avl; avl_far = avl.1; gap_near = omega (arith, avl.0, k.near); gap_far = omega (arith, avl.0, k.near) };
+          uneven = λ ys at rest k. record { avl_left = avl.1; avl_right = k.avl; gap_left = omega (arith, avl.0, k.near); gap_right = omega (arith, avl.0, k.near) };
           next = λ ys zs at rest i m k e b.
               let done = b.mended in
               record {
@@ -144,13 +145,13 @@ module _ {K V : Type 0} where
                 stands = done.stands;
                 order = done.order ∙ ap (λ (q : List (Item K V)). inorder l ++ q) (sym (swap ys at rest m k e));
                 avl = done.avl;
-                near = rw high (level_near (tall r) (tall k.tree) (tall l) (tall done.tree) k.near (avl.0.1, avl.0.0) done.least done.most b.level);
+                near = rw high (level_near (tall r) (tall k.tree) (tall l) (tall done.tree) k.near (avl.0.1, avl.0.0) (omega (arith, done.least)) (omega (arith, done.most)) (λ near. omega (arith, b.level (near.1, near.0))));
                 long = done.long ∙ k.long;
                 same = λ j off. done.same j (omega (arith, off, uses_append j (inorder l) (inorder r), ap (uses j) (swap ys at rest m k e), uses_node j (item at m.key m.value) (inorder l) (inorder k.tree))) ∙ k.same j (omega (arith, off, uses_append j (inorder l) (inorder r)));
               };
         }
 
-    pub lift_ready : n.right ≢ none → (l : Tree K V) × (r : Tree K V) × RightReady l r
+    pub lift_ready : n.links.right ≢ none → (l : Tree K V) × (r : Tree K V) × RightReady l r
     lift_ready some =
         let o = opened xs root n t stem.stands stem.some read in
         (o.l, o.r, lift_at o.l o.r o.is some o.on_left o.on_right)

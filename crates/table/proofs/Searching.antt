@@ -43,7 +43,7 @@ module _ {K V : Type 0} where
         sym d.parts ∙ ap (λ (q : List (Item K V)). d.a ++ (q ++ d.b)) is
 
     module _ (xs : List (Node K V)) (link below past : ℕ) (items : List (Item K V)) (n : Node K V) (read : slice_get xs link ≡ Some n) (some : link ≢ none) (d : Parting before E L xs link below past items) where
-      pub part_right : E n.key → ((y : K) → before y n.key ≡ true → E y) → Parting before E L xs n.right link past items
+      pub part_right : E n.key → ((y : K) → before y n.key ≡ true → E y) → Parting before E L xs n.links.right link past items
       part_right here more =
           let x : Item K V = item link n.key n.value in
           let o = opened xs link n d.sub d.stands some read in
@@ -63,7 +63,7 @@ module _ {K V : Type 0} where
             past_is = d.past_is;
           }
 
-      pub part_left : L n.key → ((y : K) → before n.key y ≡ true → L y) → Parting before E L xs n.left below link items
+      pub part_left : L n.key → ((y : K) → before n.key y ≡ true → L y) → Parting before E L xs n.links.left below link items
       part_left here more =
           let x : Item K V = item link n.key n.value in
           let o = opened xs link n d.sub d.stands some read in
@@ -83,13 +83,13 @@ module _ {K V : Type 0} where
             past_is = refl;
           }
 
-      pub shorter : (stored xs n.left < stored xs link) × (stored xs n.right < stored xs link)
+      pub shorter : (stored xs n.links.left < stored xs link) × (stored xs n.links.right < stored xs link)
       shorter =
           let o = opened xs link n d.sub d.stands some read in
           let high : tall d.sub ≡ max (tall o.l) (tall o.r) + 1 = ap tall o.is in
           let e = stored_is xs link d.sub d.stands in
-          let f = stored_is xs n.left o.l o.on_left in
-          let h = stored_is xs n.right o.r o.on_right in
+          let f = stored_is xs n.links.left o.l o.on_left in
+          let h = stored_is xs n.links.right o.r o.on_right in
           (rw (e, f) (omega arith), rw (e, h) (omega arith))
 
   pub parting_ends : (before : K → K → Bool) (key : K) (xs : List (Node K V)) (link below past : ℕ) (items : List (Item K V)) → link ≡ none → Parting before (Under before key) (NotUnder before key) xs link below past items → Parted before key below past items

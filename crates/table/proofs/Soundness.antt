@@ -21,10 +21,10 @@ module _ {K V : Type 0} where
   walk_is zero xs link leaf short low s = refl
   walk_is zero xs link (node x l r) short low s = absurd (omega (arith, low))
   walk_is (suc n) xs link leaf short low s =
-      let f : Node K V → Tree K V = λ c. node (item link c.key c.value) (walk n xs c.left) (walk n xs c.right) in
+      let f : Node K V → Tree K V = λ c. node (item link c.key c.value) (walk n xs c.links.left) (walk n xs c.links.right) in
       ap (given leaf f) (slice_get_past xs link (omega (arith, s.root)))
   walk_is (suc n) xs link (node x l r) short low s =
-      let f : Node K V → Tree K V = λ c. node (item link c.key c.value) (walk n xs c.left) (walk n xs c.right) in
+      let f : Node K V → Tree K V = λ c. node (item link c.key c.value) (walk n xs c.links.left) (walk n xs c.links.right) in
       let on_left : walk n xs (ptr l) ≡ l = walk_is n xs (ptr l) l short (omega (arith, low)) (record { held = s.held.2; root = refl }) in
       let on_right : walk n xs (ptr r) ≡ r = walk_is n xs (ptr r) r short (omega (arith, low)) (record { held = s.held.3; root = refl }) in
       ap (given leaf f) (ap (slice_get xs) s.root ∙ s.held.1)
@@ -35,10 +35,10 @@ module _ {K V : Type 0} where
   follow_is zero xs link [] short low e h = refl
   follow_is zero xs link (x ∷ us) short low e h = absurd (omega (arith, low))
   follow_is (suc n) xs link [] short low e h =
-      let f : Node K V → List (Item K V) = λ c. item link c.key c.value ∷ follow n xs c.left in
+      let f : Node K V → List (Item K V) = λ c. item link c.key c.value ∷ follow n xs c.links.left in
       ap (given [] f) (slice_get_past xs link (omega (arith, e)))
   follow_is (suc n) xs link (x ∷ us) short low e h =
-      let f : Node K V → List (Item K V) = λ c. item link c.key c.value ∷ follow n xs c.left in
+      let f : Node K V → List (Item K V) = λ c. item link c.key c.value ∷ follow n xs c.links.left in
       let rest : follow n xs (front_at us) ≡ us = follow_is n xs (front_at us) us short (omega (arith, low)) refl h.2 in
       ap (given [] f) (ap (slice_get xs) e ∙ h.1) ∙ (λ i. item (e i) x.key x.value ∷ rest i)
 

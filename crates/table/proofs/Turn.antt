@@ -1,12 +1,29 @@
--- The turns at a node of which one side is two taller, by a flag that says which.
-use Rattle.std.proofs.Common.{◌≡◌, ℕ, ◌+◌, ◌<◌, ◌≤◌, max, Bool, true, false, not, ◌≢◌, List, ◌∷◌, ◌++◌, length, Some, sym, refl, ap, ◌∙◌, subst, append_assoc, arith}
+-- The turns at a node of which one side is two taller, by the side that is.
+use Rattle.std.proofs.Common.{◌≡◌, ℕ, ◌+◌, ◌<◌, ◌≤◌, max, ◌≢◌, List, ◌∷◌, ◌++◌, length, Some, sym, refl, ap, ◌∙◌, subst, append_assoc, arith}
 use Rattle.std.specs.List.{slice_get}
-use Rattle.std.proofs.lemmas.Bool.{both_ways}
 use Rattle.std.proofs.lemmas.Option.{slice_get_within}
 use Rattle.table.specs.declared.node.Node.{Node}
-use Rattle.table.specs.Tree.{Item, Tree, none, tall, inorder, one, uses, Near, Avl, Stands}
-use Rattle.table.specs.Edit.{item, Room, Changed, Joined, Mended, Heavy, node_on, row_on, child_on, RoomOn, JoinedOn}
+use Rattle.table.specs.Side.{Side, Left, Right, Links, across, links_of, link_on}
+use Rattle.table.specs.Tree.{Item, Tree, node, none, tall, inorder, one, uses, Near, Avl, Stands}
+use Rattle.table.specs.Edit.{item, Room, Changed, Joined, Mended, Heavy, tree_on}
 use Rattle.table.proofs.Model.{uses_node, one_at, rep_frame, opened, link_within, empty_tall}
+
+-- Of two trees the near one stands on a side, and the far one on the other.
+abbrev pub node_on : {K V : Type 0} → Side → Item K V → Tree K V → Tree K V → Tree K V
+node_on Left x near far = node x near far
+node_on Right x near far = node x far near
+
+abbrev pub row_on : {K V : Type 0} → Side → List (Item K V) → Item K V → List (Item K V) → List (Item K V)
+row_on Left near x far = near ++ x ∷ far
+row_on Right near x far = far ++ x ∷ near
+
+abbrev pub RoomOn : {K V : Type 0} → Side → List (Node K V) → Item K V → ℕ → ℕ → Tree K V → Tree K V → Type 0
+RoomOn Left xs x near far n f = Room xs x (links_of Left near far) n f
+RoomOn Right xs x near far n f = Room xs x (links_of Right near far) f n
+
+abbrev pub JoinedOn : {K V : Type 0} → Side → List (Node K V) → List (Node K V) → ℕ → Item K V → Tree K V → Tree K V → Type 0
+JoinedOn Left xs ys link x n f = Joined xs ys link x n f
+JoinedOn Right xs ys link x n f = Joined xs ys link x f n
 
 -- what a test of two read heights says of the trees
 pub no_taller : (a b x y : ℕ) → a ≡ x → b ≡ y → a ≤ b → x ≤ y
@@ -14,9 +31,6 @@ no_taller a b x y e f h = omega arith
 
 pub taller : (a b x y : ℕ) → a ≡ x → b ≡ y → b < a → y < x
 taller a b x y e f h = omega arith
-
-pub two_taller : (a b x y : ℕ) → a ≡ x → b ≡ y → b + 1 < a → y + 1 < x
-two_taller a b x y e f h = omega arith
 
 pub one_taller : (a b x y : ℕ) → a ≡ x → b ≡ y → a ≤ b + 1 → x ≤ y + 1
 one_taller a b x y e f h = omega arith
@@ -46,105 +60,93 @@ module _ {K V : Type 0} where
     pub low_near : tall n ≤ 100
     pub low_far : tall f ≤ 100
 
-  pub pieces : (s : Bool) (xs : List (Node K V)) (x : Item K V) (near far : ℕ) (n f : Tree K V) → RoomOn s xs x near far n f → Pieces xs x near far n f
-  pieces true xs x near far n f room = record { on_near = room.on_left; on_far = room.on_right; within = room.within; linkable = room.linkable; once = λ j. omega (arith, room.once j, uses_node j x (inorder n) (inorder f)); low_near = room.low_left; low_far = room.low_right }
-  pieces false xs x near far n f room = record { on_near = room.on_right; on_far = room.on_left; within = room.within; linkable = room.linkable; once = λ j. omega (arith, room.once j, uses_node j x (inorder f) (inorder n)); low_near = room.low_right; low_far = room.low_left }
+  pub pieces : (s : Side) (xs : List (Node K V)) (x : Item K V) (near far : ℕ) (n f : Tree K V) → RoomOn s xs x near far n f → Pieces xs x near far n f
+  pieces Left xs x near far n f room = record { on_near = room.on_left; on_far = room.on_right; within = room.within; linkable = room.linkable; once = λ j. omega (arith, room.once j, uses_node j x (inorder n) (inorder f)); low_near = room.low_left; low_far = room.low_right }
+  pieces Right xs x near far n f room = record { on_near = room.on_right; on_far = room.on_left; within = room.within; linkable = room.linkable; once = λ j. omega (arith, room.once j, uses_node j x (inorder f) (inorder n)); low_near = room.low_right; low_far = room.low_left }
 
-  pub placed : (s : Bool) (xs : List (Node K V)) (x : Item K V) (near far : ℕ) (n f : Tree K V) → Pieces xs x near far n f → RoomOn s xs x near far n f
-  placed true xs x near far n f p = record { on_left = p.on_near; on_right = p.on_far; within = p.within; linkable = p.linkable; once = λ j. omega (arith, p.once j, uses_node j x (inorder n) (inorder f)); low_left = p.low_near; low_right = p.low_far }
-  placed false xs x near far n f p = record { on_left = p.on_far; on_right = p.on_near; within = p.within; linkable = p.linkable; once = λ j. omega (arith, p.once j, uses_node j x (inorder f) (inorder n)); low_left = p.low_far; low_right = p.low_near }
+  pub placed : (s : Side) (xs : List (Node K V)) (x : Item K V) (near far : ℕ) (n f : Tree K V) → Pieces xs x near far n f → RoomOn s xs x near far n f
+  placed Left xs x near far n f p = record { on_left = p.on_near; on_right = p.on_far; within = p.within; linkable = p.linkable; once = λ j. omega (arith, p.once j, uses_node j x (inorder n) (inorder f)); low_left = p.low_near; low_right = p.low_far }
+  placed Right xs x near far n f p = record { on_left = p.on_far; on_right = p.on_near; within = p.within; linkable = p.linkable; once = λ j. omega (arith, p.once j, uses_node j x (inorder f) (inorder n)); low_left = p.low_far; low_right = p.low_near }
 
-  -- the two ways of a flag
-  pub room_left : (s : Bool) (xs : List (Node K V)) (x : Item K V) (near far : ℕ) (n f : Tree K V) → s ≡ true → RoomOn s xs x near far n f → Room xs x near far n f
-  room_left true xs x near far n f e r = r
-  room_left false xs x near far n f e r = absurd (both_ways false refl e)
+  pub joined_stands : (s : Side) (xs ys : List (Node K V)) (i : ℕ) (x : Item K V) (n f : Tree K V) → JoinedOn s xs ys i x n f → Stands ys i (node_on s x n f)
+  joined_stands Left xs ys i x n f j = j.stands
+  joined_stands Right xs ys i x n f j = j.stands
 
-  pub room_right : (s : Bool) (xs : List (Node K V)) (x : Item K V) (near far : ℕ) (n f : Tree K V) → s ≡ false → RoomOn s xs x near far n f → Room xs x far near f n
-  room_right true xs x near far n f e r = absurd (both_ways true e refl)
-  room_right false xs x near far n f e r = r
+  pub joined_kept : (s : Side) (xs ys : List (Node K V)) (i : ℕ) (x : Item K V) (n f : Tree K V) → JoinedOn s xs ys i x n f → Changed xs ys x.at
+  joined_kept Left xs ys i x n f j = j.kept
+  joined_kept Right xs ys i x n f j = j.kept
 
-  pub joined_left : (s : Bool) (xs ys : List (Node K V)) (i : ℕ) (x : Item K V) (n f : Tree K V) → s ≡ true → Joined xs ys i x n f → JoinedOn s xs ys i x n f
-  joined_left true xs ys i x n f e j = j
-  joined_left false xs ys i x n f e j = absurd (both_ways false refl e)
+  -- from the left and the right to a side and the other one, and back
+  pub entered : (s o : Side) (xs : List (Node K V)) (x : Item K V) (links : Links) (near far : ℕ) (l r : Tree K V) → o ≡ across s → near ≡ link_on s links → far ≡ link_on o links → Room xs x links l r → RoomOn s xs x near far (tree_on s l r) (tree_on (across s) l r)
+  entered Left o xs x links near far l r e a b room = rw (a, b, e) room
+  entered Right o xs x links near far l r e a b room = rw (a, b, e) room
 
-  pub joined_right : (s : Bool) (xs ys : List (Node K V)) (i : ℕ) (x : Item K V) (n f : Tree K V) → s ≡ false → Joined xs ys i x f n → JoinedOn s xs ys i x n f
-  joined_right true xs ys i x n f e j = absurd (both_ways true e refl)
-  joined_right false xs ys i x n f e j = j
+  pub left_at : (s : Side) (xs : List (Node K V)) (x : Item K V) (links : Links) (near far : ℕ) (n f : Tree K V) → links ≡ links_of s near far → RoomOn s xs x near far n f → Room xs x links (tree_on s n f) (tree_on (across s) n f)
+  left_at Left xs x links near far n f e room = rw e room
+  left_at Right xs x links near far n f e room = rw e room
 
-  pub joined_stands : (s : Bool) (xs ys : List (Node K V)) (i : ℕ) (x : Item K V) (n f : Tree K V) → JoinedOn s xs ys i x n f → Stands ys i (node_on s x n f)
-  joined_stands true xs ys i x n f j = j.stands
-  joined_stands false xs ys i x n f j = j.stands
+  pub joined_on : (s : Side) (xs ys : List (Node K V)) (i : ℕ) (x : Item K V) (n f : Tree K V) → Joined xs ys i x (tree_on s n f) (tree_on (across s) n f) → JoinedOn s xs ys i x n f
+  joined_on Left xs ys i x n f j = j
+  joined_on Right xs ys i x n f j = j
 
-  pub joined_kept : (s : Bool) (xs ys : List (Node K V)) (i : ℕ) (x : Item K V) (n f : Tree K V) → JoinedOn s xs ys i x n f → Changed xs ys x.at
-  joined_kept true xs ys i x n f j = j.kept
-  joined_kept false xs ys i x n f j = j.kept
+  pub mended_on : (s : Side) (xs ys : List (Node K V)) (i : ℕ) (x : Item K V) (l r : Tree K V) (high : ℕ) → Mended xs ys i (row_on s (inorder (tree_on s l r)) x (inorder (tree_on (across s) l r))) high → Mended xs ys i (inorder l ++ x ∷ inorder r) high
+  mended_on Left xs ys i x l r high m = m
+  mended_on Right xs ys i x l r high m = m
 
-  -- what is said of one side, said of the other
-  pub room_swap : (s : Bool) (xs : List (Node K V)) (x : Item K V) (near far : ℕ) (n f : Tree K V) → RoomOn s xs x near far n f → RoomOn (not s) xs x far near f n
-  room_swap true xs x near far n f r = r
-  room_swap false xs x near far n f r = r
+  pub row_is : (s : Side) (x : Item K V) (n f : Tree K V) → inorder (node_on s x n f) ≡ row_on s (inorder n) x (inorder f)
+  row_is Left x n f = refl
+  row_is Right x n f = refl
 
-  pub row_swap : (s : Bool) (x : Item K V) (a b : List (Item K V)) → row_on (not s) b x a ≡ row_on s a x b
-  row_swap true x a b = refl
-  row_swap false x a b = refl
+  pub tall_on : (s : Side) (x : Item K V) (n f : Tree K V) → tall (node_on s x n f) ≡ max (tall n) (tall f) + 1
+  tall_on Left x n f = refl
+  tall_on Right x n f = omega arith
 
-  pub row_is : (s : Bool) (x : Item K V) (n f : Tree K V) → inorder (node_on s x n f) ≡ row_on s (inorder n) x (inorder f)
-  row_is true x n f = refl
-  row_is false x n f = refl
+  uses_on : (s : Side) (j : ℕ) (x : Item K V) (n f : Tree K V) → uses j (inorder (node_on s x n f)) ≡ uses j (inorder n) + one j x.at + uses j (inorder f)
+  uses_on Left j x n f = omega (arith, uses_node j x (inorder n) (inorder f))
+  uses_on Right j x n f = omega (arith, uses_node j x (inorder f) (inorder n))
 
-  pub tall_on : (s : Bool) (x : Item K V) (n f : Tree K V) → tall (node_on s x n f) ≡ max (tall n) (tall f) + 1
-  tall_on true x n f = refl
-  tall_on false x n f = omega arith
+  pub uses_row : (s : Side) (j : ℕ) (x : Item K V) (a b : List (Item K V)) → uses j (row_on s a x b) ≡ uses j a + one j x.at + uses j b
+  uses_row Left j x a b = omega (arith, uses_node j x a b)
+  uses_row Right j x a b = omega (arith, uses_node j x b a)
 
-  uses_on : (s : Bool) (j : ℕ) (x : Item K V) (n f : Tree K V) → uses j (inorder (node_on s x n f)) ≡ uses j (inorder n) + one j x.at + uses j (inorder f)
-  uses_on true j x n f = omega (arith, uses_node j x (inorder n) (inorder f))
-  uses_on false j x n f = omega (arith, uses_node j x (inorder f) (inorder n))
+  pub avl_on : (s : Side) (x : Item K V) (n f : Tree K V) → Near (tall n) (tall f) → Avl n → Avl f → Avl (node_on s x n f)
+  avl_on Left x n f near p q = (near, p, q)
+  avl_on Right x n f near p q = ((near.1, near.0), q, p)
 
-  pub uses_row : (s : Bool) (j : ℕ) (x : Item K V) (a b : List (Item K V)) → uses j (row_on s a x b) ≡ uses j a + one j x.at + uses j b
-  uses_row true j x a b = omega (arith, uses_node j x a b)
-  uses_row false j x a b = omega (arith, uses_node j x b a)
+  pub avl_off : (s : Side) (x : Item K V) (n f : Tree K V) → Avl (node_on s x n f) → Near (tall n) (tall f) × Avl n × Avl f
+  avl_off Left x n f h = h
+  avl_off Right x n f h = ((h.0.1, h.0.0), h.2, h.1)
 
-  pub off_row : (s : Bool) (j : ℕ) (a : List (Item K V)) (x : Item K V) (b : List (Item K V)) → uses j (row_on s a x b) ≡ 0 → j ≢ x.at
-  off_row s j a x b off e = omega (arith, off, uses_row s j x a b, ap (λ (q : ℕ). one q x.at) e, one_at x.at)
+  single_row : (s : Side) (x y : Item K V) (o i l : Tree K V) → inorder (node_on s y o (node_on s x i l)) ≡ row_on s (inorder (node_on s y o i)) x (inorder l)
+  single_row Left x y o i l = sym (append_assoc (inorder o) (y ∷ inorder i) (x ∷ inorder l))
+  single_row Right x y o i l = append_assoc (inorder l) (x ∷ inorder i) (y ∷ inorder o)
 
-  pub avl_on : (s : Bool) (x : Item K V) (n f : Tree K V) → Near (tall n) (tall f) → Avl n → Avl f → Avl (node_on s x n f)
-  avl_on true x n f near p q = (near, p, q)
-  avl_on false x n f near p q = ((near.1, near.0), q, p)
-
-  pub avl_off : (s : Bool) (x : Item K V) (n f : Tree K V) → Avl (node_on s x n f) → Near (tall n) (tall f) × Avl n × Avl f
-  avl_off true x n f h = h
-  avl_off false x n f h = ((h.0.1, h.0.0), h.2, h.1)
-
-  single_row : (s : Bool) (x y : Item K V) (o i l : Tree K V) → inorder (node_on s y o (node_on s x i l)) ≡ row_on s (inorder (node_on s y o i)) x (inorder l)
-  single_row true x y o i l = sym (append_assoc (inorder o) (y ∷ inorder i) (x ∷ inorder l))
-  single_row false x y o i l = append_assoc (inorder l) (x ∷ inorder i) (y ∷ inorder o)
-
-  double_row : (s : Bool) (x y z : Item K V) (a b c d : Tree K V) → inorder (node_on s z (node_on s y a b) (node_on s x c d)) ≡ row_on s (inorder (node_on s y a (node_on s z b c))) x (inorder d)
-  double_row true x y z a b c d = simp append_assoc
-  double_row false x y z a b c d = simp append_assoc
+  double_row : (s : Side) (x y z : Item K V) (a b c d : Tree K V) → inorder (node_on s z (node_on s y a b) (node_on s x c d)) ≡ row_on s (inorder (node_on s y a (node_on s z b c))) x (inorder d)
+  double_row Left x y z a b c d = simp append_assoc
+  double_row Right x y z a b c d = simp append_assoc
 
   -- a tree with a node, opened by sides
-  pub record OpenedOn (s : Bool) (xs : List (Node K V)) (link : ℕ) (n : Node K V) (t : Tree K V) : Type 0 where
+  pub record OpenedOn (s : Side) (xs : List (Node K V)) (link : ℕ) (n : Node K V) (t : Tree K V) : Type 0 where
     pub near : Tree K V
     pub far : Tree K V
     pub is : t ≡ node_on s (item link n.key n.value) near far
-    pub on_near : Stands xs (child_on s n) near
-    pub on_far : Stands xs (child_on (not s) n) far
+    pub on_near : Stands xs (link_on s n.links) near
+    pub on_far : Stands xs (link_on (across s) n.links) far
     pub linkable : link < none
     pub within : link < length xs
 
-  pub opened_on : (s : Bool) (xs : List (Node K V)) (link : ℕ) (n : Node K V) (t : Tree K V) → Stands xs link t → link ≢ none → slice_get xs link ≡ Some n → OpenedOn s xs link n t
-  opened_on true xs link n t st ne e = let o = opened xs link n t st ne e in record { near = o.l; far = o.r; is = o.is; on_near = o.on_left; on_far = o.on_right; linkable = o.linkable; within = slice_get_within xs link n e }
-  opened_on false xs link n t st ne e = let o = opened xs link n t st ne e in record { near = o.r; far = o.l; is = o.is; on_near = o.on_right; on_far = o.on_left; linkable = o.linkable; within = slice_get_within xs link n e }
+  pub opened_on : (s : Side) (xs : List (Node K V)) (link : ℕ) (n : Node K V) (t : Tree K V) → Stands xs link t → link ≢ none → slice_get xs link ≡ Some n → OpenedOn s xs link n t
+  opened_on Left xs link n t st ne e = let o = opened xs link n t st ne e in record { near = o.l; far = o.r; is = o.is; on_near = o.on_left; on_far = o.on_right; linkable = o.linkable; within = slice_get_within xs link n e }
+  opened_on Right xs link n t st ne e = let o = opened xs link n t st ne e in record { near = o.r; far = o.l; is = o.is; on_near = o.on_right; on_far = o.on_left; linkable = o.linkable; within = slice_get_within xs link n e }
 
-  pub heavy_link : (s : Bool) (xs : List (Node K V)) (x : Item K V) (heavy light : ℕ) (h l : Tree K V) → RoomOn s xs x heavy light h l → Heavy h l → heavy ≢ none
+  pub heavy_link : (s : Side) (xs : List (Node K V)) (x : Item K V) (heavy light : ℕ) (h l : Tree K V) → RoomOn s xs x heavy light h l → Heavy h l → heavy ≢ none
   heavy_link s xs x heavy light h l room big e = omega (arith, big.gap, empty_tall xs heavy h (pieces s xs x heavy light h l room).on_near e)
 
-  pub heavy_within : (s : Bool) (xs : List (Node K V)) (x : Item K V) (heavy light : ℕ) (h l : Tree K V) → RoomOn s xs x heavy light h l → Heavy h l → heavy < length xs
+  pub heavy_within : (s : Side) (xs : List (Node K V)) (x : Item K V) (heavy light : ℕ) (h l : Tree K V) → RoomOn s xs x heavy light h l → Heavy h l → heavy < length xs
   heavy_within s xs x heavy light h l room big = link_within xs heavy h (pieces s xs x heavy light h l room).on_near (heavy_link s xs x heavy light h l room big)
 
   -- The double turn: x stands over (a y (b z c)) and d.
-  pub record Double (s : Bool) (xs : List (Node K V)) (x y z : Item K V) (outer near far light : ℕ) (a h d : Tree K V) : Type 0 where
+  pub record Double (s : Side) (xs : List (Node K V)) (x y z : Item K V) (outer near far light : ℕ) (a h d : Tree K V) : Type 0 where
     pub b : Tree K V
     pub c : Tree K V
     pub first : RoomOn s xs y outer near a b
@@ -152,7 +154,7 @@ module _ {K V : Type 0} where
     pub third : (ys zs : List (Node K V)) (i k : ℕ) → JoinedOn s xs ys i y a b → JoinedOn s ys zs k x c d → RoomOn s zs z i k (node_on s y a b) (node_on s x c d)
     pub done : (ys zs ws : List (Node K V)) (i k u : ℕ) → JoinedOn s xs ys i y a b → JoinedOn s ys zs k x c d → JoinedOn s zs ws u z (node_on s y a b) (node_on s x c d) → Mended xs ws u (row_on s (inorder h) x (inorder d)) (tall h)
 
-  module _ (s : Bool) (xs : List (Node K V)) (x y : Item K V) (outer light : ℕ) (a d : Tree K V) (on-a : Stands xs outer a) (on-d : Stands xs light d) (x-within : x.at < length xs) (x-linkable : x.at < none) (y-within : y.at < length xs) (y-linkable : y.at < none) (a-avl : Avl a) (d-avl : Avl d) where
+  module _ (s : Side) (xs : List (Node K V)) (x y : Item K V) (outer light : ℕ) (a d : Tree K V) (on-a : Stands xs outer a) (on-d : Stands xs light d) (x-within : x.at < length xs) (x-linkable : x.at < none) (y-within : y.at < length xs) (y-linkable : y.at < none) (a-avl : Avl a) (d-avl : Avl d) where
     -- the single turn: x stands over (a y i) and d
     module _ (inner : ℕ) (i : Tree K V) (on-i : Stands xs inner i) (i-avl : Avl i) (once : (j : ℕ) → uses j (inorder a) + one j y.at + uses j (inorder i) + one j x.at + uses j (inorder d) ≤ 1) (near : Near (tall a) (tall i)) (gap : max (tall a) (tall i) + 1 ≡ tall d + 2) (low : max (tall a) (tall i) + 1 ≤ 100) where
       single_low : RoomOn s xs x inner light i d
@@ -254,7 +256,7 @@ module _ {K V : Type 0} where
           }
 
   -- A turn once the top of the heavy side is read: what its calls ask, and what they come to.
-  pub record Turning (s : Bool) (xs : List (Node K V)) (x y : Item K V) (light outer inner : ℕ) (h l : Tree K V) : Type 0 where
+  pub record Turning (s : Side) (xs : List (Node K V)) (x y : Item K V) (light outer inner : ℕ) (h l : Tree K V) : Type 0 where
     pub o : Tree K V
     pub i : Tree K V
     pub on_outer : Stands xs outer o
@@ -263,10 +265,10 @@ module _ {K V : Type 0} where
     pub top : (ys : List (Node K V)) (k : ℕ) → JoinedOn s xs ys k x i l → RoomOn s ys y outer k o (node_on s x i l)
     pub single : (ys zs : List (Node K V)) (k u : ℕ) → tall i ≤ tall o → JoinedOn s xs ys k x i l → JoinedOn s ys zs u y o (node_on s x i l) → Mended xs zs u (row_on s (inorder h) x (inorder l)) (tall h)
     pub inner_within : tall o < tall i → inner < length xs
-    pub double : tall o < tall i → (m : Node K V) → slice_get xs inner ≡ Some m → (near far : ℕ) → near ≡ child_on s m → far ≡ child_on (not s) m → (z : Item K V) → z ≡ item inner m.key m.value → Double s xs x y z outer near far light o h l
+    pub double : tall o < tall i → (m : Node K V) → slice_get xs inner ≡ Some m → (near far : ℕ) → near ≡ link_on s m.links → far ≡ link_on (across s) m.links → (z : Item K V) → z ≡ item inner m.key m.value → Double s xs x y z outer near far light o h l
 
-  module _ (s : Bool) (xs : List (Node K V)) (x : Item K V) (heavy light : ℕ) (n : Node K V) (h l : Tree K V) (room : RoomOn s xs x heavy light h l) (big : Heavy h l) (read : slice_get xs heavy ≡ Some n) where
-    at_top : (o i : Tree K V) → h ≡ node_on s (item heavy n.key n.value) o i → Stands xs (child_on s n) o → Stands xs (child_on (not s) n) i → heavy < none → Turning s xs x (item heavy n.key n.value) light (child_on s n) (child_on (not s) n) h l
+  module _ (s : Side) (xs : List (Node K V)) (x : Item K V) (heavy light : ℕ) (n : Node K V) (h l : Tree K V) (room : RoomOn s xs x heavy light h l) (big : Heavy h l) (read : slice_get xs heavy ≡ Some n) where
+    at_top : (o i : Tree K V) → h ≡ node_on s (item heavy n.key n.value) o i → Stands xs (link_on s n.links) o → Stands xs (link_on (across s) n.links) i → heavy < none → Turning s xs x (item heavy n.key n.value) light (link_on s n.links) (link_on (across s) n.links) h l
     at_top o i is on-o on-i linkable =
         let y : Item K V = item heavy n.key n.value in
         let p = pieces s xs x heavy light h l room in
@@ -282,13 +284,13 @@ module _ {K V : Type 0} where
           i = i;
           on_outer = on-o;
           on_inner = on-i;
-          low = single_low s xs x y (child_on s n) light o l on-o p.on_far p.within p.linkable y-within linkable avl.1 big.avl_light (child_on (not s) n) i on-i avl.2 once avl.0 gap low;
-          top = single_top s xs x y (child_on s n) light o l on-o p.on_far p.within p.linkable y-within linkable avl.1 big.avl_light (child_on (not s) n) i on-i avl.2 once avl.0 gap low;
-          single = λ ys zs k u test j1 j2. back zs u (node_on s y o i) is (single_done s xs x y (child_on s n) light o l on-o p.on_far p.within p.linkable y-within linkable avl.1 big.avl_light (child_on (not s) n) i on-i avl.2 once avl.0 gap low ys zs k u test j1 j2);
-          inner_within = λ test. link_within xs (child_on (not s) n) i on-i (λ e. omega (arith, test, empty_tall xs (child_on (not s) n) i on-i e));
+          low = single_low s xs x y (link_on s n.links) light o l on-o p.on_far p.within p.linkable y-within linkable avl.1 big.avl_light (link_on (across s) n.links) i on-i avl.2 once avl.0 gap low;
+          top = single_top s xs x y (link_on s n.links) light o l on-o p.on_far p.within p.linkable y-within linkable avl.1 big.avl_light (link_on (across s) n.links) i on-i avl.2 once avl.0 gap low;
+          single = λ ys zs k u test j1 j2. back zs u (node_on s y o i) is (single_done s xs x y (link_on s n.links) light o l on-o p.on_far p.within p.linkable y-within linkable avl.1 big.avl_light (link_on (across s) n.links) i on-i avl.2 once avl.0 gap low ys zs k u test j1 j2);
+          inner_within = λ test. link_within xs (link_on (across s) n.links) i on-i (λ e. omega (arith, test, empty_tall xs (link_on (across s) n.links) i on-i e));
           double = λ test m e near far near-is far-is z-2 z-is.
-              let k = opened_on s xs (child_on (not s) n) m i on-i (λ e. omega (arith, test, empty_tall xs (child_on (not s) n) i on-i e)) e in
-              let z : Item K V = item (child_on (not s) n) m.key m.value in
+              let k = opened_on s xs (link_on (across s) n.links) m i on-i (λ e. omega (arith, test, empty_tall xs (link_on (across s) n.links) i on-i e)) e in
+              let z : Item K V = item (link_on (across s) n.links) m.key m.value in
               let inner-avl = avl_off s z k.near k.far (subst Avl k.is avl.2) in
               let inner-high : tall i ≡ max (tall k.near) (tall k.far) + 1 = ap tall k.is ∙ tall_on s z k.near k.far in
               let on-b : Stands xs near k.near = rw near-is k.on_near in
@@ -301,14 +303,14 @@ module _ {K V : Type 0} where
               rw z-is (record {
                 b = k.near;
                 c = k.far;
-                first = double_first s xs x y (child_on s n) light o l on-o p.on_far p.within p.linkable y-within linkable avl.1 big.avl_light z near far k.near k.far on-b on-c k.within k.linkable inner-avl.1 inner-avl.2 once-2 near-1 inner-avl.0 gap-2 low-2;
-                second = double_second s xs x y (child_on s n) light o l on-o p.on_far p.within p.linkable y-within linkable avl.1 big.avl_light z near far k.near k.far on-b on-c k.within k.linkable inner-avl.1 inner-avl.2 once-2 near-1 inner-avl.0 gap-2 low-2;
-                third = double_third s xs x y (child_on s n) light o l on-o p.on_far p.within p.linkable y-within linkable avl.1 big.avl_light z near far k.near k.far on-b on-c k.within k.linkable inner-avl.1 inner-avl.2 once-2 near-1 inner-avl.0 gap-2 low-2;
-                done = λ ys zs ws a b u j1 j2 j3. back ws u (node_on s y o (node_on s z k.near k.far)) is-2 (double_done s xs x y (child_on s n) light o l on-o p.on_far p.within p.linkable y-within linkable avl.1 big.avl_light z near far k.near k.far on-b on-c k.within k.linkable inner-avl.1 inner-avl.2 once-2 near-1 inner-avl.0 gap-2 low-2 ys zs ws a b u (omega (arith, test, inner-high)) j1 j2 j3);
+                first = double_first s xs x y (link_on s n.links) light o l on-o p.on_far p.within p.linkable y-within linkable avl.1 big.avl_light z near far k.near k.far on-b on-c k.within k.linkable inner-avl.1 inner-avl.2 once-2 near-1 inner-avl.0 gap-2 low-2;
+                second = double_second s xs x y (link_on s n.links) light o l on-o p.on_far p.within p.linkable y-within linkable avl.1 big.avl_light z near far k.near k.far on-b on-c k.within k.linkable inner-avl.1 inner-avl.2 once-2 near-1 inner-avl.0 gap-2 low-2;
+                third = double_third s xs x y (link_on s n.links) light o l on-o p.on_far p.within p.linkable y-within linkable avl.1 big.avl_light z near far k.near k.far on-b on-c k.within k.linkable inner-avl.1 inner-avl.2 once-2 near-1 inner-avl.0 gap-2 low-2;
+                done = λ ys zs ws a b u j1 j2 j3. back ws u (node_on s y o (node_on s z k.near k.far)) is-2 (double_done s xs x y (link_on s n.links) light o l on-o p.on_far p.within p.linkable y-within linkable avl.1 big.avl_light z near far k.near k.far on-b on-c k.within k.linkable inner-avl.1 inner-avl.2 once-2 near-1 inner-avl.0 gap-2 low-2 ys zs ws a b u (omega (arith, test, inner-high)) j1 j2 j3);
               });
         }
 
-    pub turning : (outer inner : ℕ) → outer ≡ child_on s n → inner ≡ child_on (not s) n → (y : Item K V) → y ≡ item heavy n.key n.value → Turning s xs x y light outer inner h l
+    pub turning : (outer inner : ℕ) → outer ≡ link_on s n.links → inner ≡ link_on (across s) n.links → (y : Item K V) → y ≡ item heavy n.key n.value → Turning s xs x y light outer inner h l
     turning outer inner e f y y-is =
         let k = opened_on s xs heavy n h (pieces s xs x heavy light h l room).on_near (heavy_link s xs x heavy light h l room big) read in
         rw (e, f, y-is) (at_top k.near k.far k.is k.on_near k.on_far k.linkable)

@@ -1,7 +1,8 @@
 -- What the edits of a tree ask and give.
-use Rattle.std.specs.Prelude.{◌≡◌, ℕ, ◌+◌, ◌<◌, ◌≤◌, max, Bool, true, false, ◌≢◌, List, ◌∷◌, ◌++◌, length}
+use Rattle.std.specs.Prelude.{◌≡◌, ℕ, ◌+◌, ◌<◌, ◌≤◌, max, ◌≢◌, List, ◌∷◌, ◌++◌, length}
 use Rattle.std.specs.List.{slice_get}
 use Rattle.table.specs.declared.node.Node.{Node}
+use Rattle.table.specs.Side.{Side, Left, Right, Links}
 use Rattle.table.specs.Tree.{Item, Tree, node, none, tall, inorder, uses, Near, Avl, Stands}
 
 abbrev pub item : {K V : Type 0} → ℕ → K → V → Item K V
@@ -12,9 +13,9 @@ abbrev pub Once : {K V : Type 0} → List (Item K V) → Type 0
 Once items = (j : ℕ) → uses j items ≤ 1
 
 -- x can be put over the trees l and r, at two links
-pub record Room {K V : Type 0} (xs : List (Node K V)) (x : Item K V) (left right : ℕ) (l r : Tree K V) : Type 0 where
-  pub on_left : Stands xs left l
-  pub on_right : Stands xs right r
+pub record Room {K V : Type 0} (xs : List (Node K V)) (x : Item K V) (links : Links) (l r : Tree K V) : Type 0 where
+  pub on_left : Stands xs links.left l
+  pub on_right : Stands xs links.right r
   pub within : x.at < length xs
   pub linkable : x.at < none
   pub once : Once (inorder l ++ x ∷ inorder r)
@@ -41,26 +42,9 @@ pub record Mended {K V : Type 0} (xs ys : List (Node K V)) (link : ℕ) (items :
   pub long : length ys ≡ length xs
   pub same : (j : ℕ) → uses j items ≡ 0 → slice_get ys j ≡ slice_get xs j
 
--- Sides by a flag: of two trees the near one stands on the left where it is true, and on the right where it is false.
-abbrev pub node_on : {K V : Type 0} → Bool → Item K V → Tree K V → Tree K V → Tree K V
-node_on true x near far = node x near far
-node_on false x near far = node x far near
-
-abbrev pub row_on : {K V : Type 0} → Bool → List (Item K V) → Item K V → List (Item K V) → List (Item K V)
-row_on true near x far = near ++ x ∷ far
-row_on false near x far = far ++ x ∷ near
-
-abbrev pub child_on : {K V : Type 0} → Bool → Node K V → ℕ
-child_on true n = n.left
-child_on false n = n.right
-
-abbrev pub RoomOn : {K V : Type 0} → Bool → List (Node K V) → Item K V → ℕ → ℕ → Tree K V → Tree K V → Type 0
-RoomOn true xs x near far n f = Room xs x near far n f
-RoomOn false xs x near far n f = Room xs x far near f n
-
-abbrev pub JoinedOn : {K V : Type 0} → Bool → List (Node K V) → List (Node K V) → ℕ → Item K V → Tree K V → Tree K V → Type 0
-JoinedOn true xs ys link x n f = Joined xs ys link x n f
-JoinedOn false xs ys link x n f = Joined xs ys link x f n
+abbrev pub tree_on : {K V : Type 0} → Side → Tree K V → Tree K V → Tree K V
+tree_on Left l r = l
+tree_on Right l r = r
 
 -- both trees are balanced, and the first is two taller
 pub record Heavy {K V : Type 0} (h l : Tree K V) : Type 0 where
@@ -69,12 +53,12 @@ pub record Heavy {K V : Type 0} (h l : Tree K V) : Type 0 where
   pub gap : tall h ≡ tall l + 2
 
 -- both trees are balanced, and neither is more than two taller
-pub record Uneven {K V : Type 0} (n f : Tree K V) : Type 0 where
-  pub avl_near : Avl n
-  pub avl_far : Avl f
-  pub gap_near : tall n ≤ tall f + 2
-  pub gap_far : tall f ≤ tall n + 2
+pub record Uneven {K V : Type 0} (l r : Tree K V) : Type 0 where
+  pub avl_left : Avl l
+  pub avl_right : Avl r
+  pub gap_left : tall l ≤ tall r + 2
+  pub gap_right : tall r ≤ tall l + 2
 
-pub record Balanced {K V : Type 0} (s : Bool) (xs ys : List (Node K V)) (link : ℕ) (x : Item K V) (n f : Tree K V) : Type 0 where
-  pub mended : Mended xs ys link (row_on s (inorder n) x (inorder f)) (max (tall n) (tall f))
-  pub level : Near (tall n) (tall f) → tall mended.tree ≡ max (tall n) (tall f) + 1
+pub record Balanced {K V : Type 0} (xs ys : List (Node K V)) (link : ℕ) (x : Item K V) (l r : Tree K V) : Type 0 where
+  pub mended : Mended xs ys link (inorder l ++ x ∷ inorder r) (max (tall l) (tall r))
+  pub level : Near (tall l) (tall r) → tall mended.tree ≡ max (tall l) (tall r) + 1

@@ -1,5 +1,6 @@
 pub mod Order
 pub mod Pairs
+pub mod Side
 pub mod Tree
 pub mod Edit
 pub mod Path

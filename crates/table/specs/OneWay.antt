@@ -25,7 +25,7 @@ sorted_prop before (x ∷ xs) p q = λ i. (each_prop _ (λ y. Coded-set coded_bo
 module _ {K V : Type 0} (code_K : Coded K) (code_V : Coded V) where
   -- a record is stored as the tuple of its fields
   node_prop : (x y : Option (Node K V)) → IsProp (x ≡ y)
-  node_prop = Coded-set (coded_option (code_by (K × (V × (ℕ × (ℕ × ℕ)))) (coded× code_K (coded× code_V (coded× coded_ℕ (coded× coded_ℕ coded_ℕ)))) (λ n. (n.key, (n.value, (n.left, (n.right, n.height))))) (λ p. record { key = p.0; value = p.1.0; left = p.1.1.0; right = p.1.1.1.0; height = p.1.1.1.1 }) (λ _. refl)))
+  node_prop = Coded-set (coded_option (code_by (K × (V × (ℕ × (ℕ × ℕ)))) (coded× code_K (coded× code_V (coded× coded_ℕ (coded× coded_ℕ coded_ℕ)))) (λ n. (n.key, (n.value, (n.links.left, (n.links.right, n.height))))) (λ p. record { key = p.0; value = p.1.0; links = record { left = p.1.1.0; right = p.1.1.1.0 }; height = p.1.1.1.1 }) (λ _. refl)))
 
   rep_prop : (xs : List (Node K V)) (t : Tree K V) → IsProp (Rep xs t)
   rep_prop xs leaf p q = refl

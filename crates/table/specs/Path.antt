@@ -1,26 +1,26 @@
 -- A way down a tree, and the tree around its end.
-use Rattle.std.specs.Prelude.{◌≡◌, ℕ, ◌+◌, ◌<◌, ◌≤◌, max, Bool, true, false, not, List, [], ◌∷◌, ◌++◌, length, Some}
+use Rattle.std.specs.Prelude.{◌≡◌, ℕ, ◌+◌, ◌<◌, ◌≤◌, max, List, [], ◌∷◌, ◌++◌, length, Some}
 use Rattle.std.specs.List.{slice_get}
 use Rattle.table.specs.declared.node.Node.{Node}
 use Rattle.table.specs.declared.tree.path.Step.{Step}
 use Rattle.table.specs.Tree.{Item, Tree, none, ptr, tall, inorder, uses, Rep, Near, Avl, Stands}
-use Rattle.table.specs.Edit.{item, Once, child_on}
+use Rattle.table.specs.Side.{Side, Left, Right, across, link_on}
+use Rattle.table.specs.Edit.{item, Once}
 
--- A node that the way leaves, to the left where the flag is true and else to the right, with its other side. The deepest
--- comes first.
+-- A node that the way leaves, to a side, with its other side. The deepest comes first.
 pub data Frame (K V : Type 0) : Type 0 where
-  on : Bool → Item K V → Tree K V → Frame K V
+  on : Side → Item K V → Tree K V → Frame K V
 
 -- the items before the end of the way, and those after it
 abbrev pub front : {K V : Type 0} → List (Frame K V) → List (Item K V)
 front [] = []
-front (on true x o ∷ fs) = front fs
-front (on false x o ∷ fs) = front fs ++ (inorder o ++ x ∷ [])
+front (on Left x o ∷ fs) = front fs
+front (on Right x o ∷ fs) = front fs ++ (inorder o ++ x ∷ [])
 
 abbrev pub back : {K V : Type 0} → List (Frame K V) → List (Item K V)
 back [] = []
-back (on true x o ∷ fs) = x ∷ (inorder o ++ back fs)
-back (on false x o ∷ fs) = back fs
+back (on Left x o ∷ fs) = x ∷ (inorder o ++ back fs)
+back (on Right x o ∷ fs) = back fs
 
 -- how tall the whole tree is, with one of height h at the end of the way
 abbrev pub top : {K V : Type 0} → List (Frame K V) → ℕ → ℕ
@@ -36,12 +36,12 @@ Lvl (on s x o ∷ fs) h = Near h (tall o) × Avl o × Lvl fs (max h (tall o) + 1
 -- is left open.
 abbrev pub Along : {K V : Type 0} → List (Node K V) → List (Frame K V) → Type 0
 Along xs [] = Unit {0}
-Along {K} {V} xs (on s x o ∷ fs) = (x.at < none) × ((n : Node K V) × (slice_get xs x.at ≡ Some n) × (item x.at n.key n.value ≡ x) × (child_on (not s) n ≡ ptr o)) × Rep xs o × Along xs fs
+Along {K} {V} xs (on s x o ∷ fs) = (x.at < none) × ((n : Node K V) × (slice_get xs x.at ≡ Some n) × (item x.at n.key n.value ≡ x) × (link_on (across s) n.links ≡ ptr o)) × Rep xs o × Along xs fs
 
 -- the steps of the way, from the root down
 abbrev pub steps : {K V : Type 0} → List (Frame K V) → List Step
 steps [] = []
-steps (on s x o ∷ fs) = steps fs ++ record { at = x.at; left = s } ∷ []
+steps (on s x o ∷ fs) = steps fs ++ record { at = x.at; side = s } ∷ []
 
 -- a tree t stands at the end of a way that fitted one of height h
 pub record Climb {K V : Type 0} (xs : List (Node K V)) (path : List Step) (link : ℕ) (fs : List (Frame K V)) (t : Tree K V) (h : ℕ) : Type 0 where

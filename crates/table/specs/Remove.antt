@@ -25,7 +25,7 @@ pub record Leftward {K V : Type 0} (xs : List (Node K V)) (path : List Step) (li
   pub first : front fs ≡ []
 
 abbrev pub LeftEnd : {K V : Type 0} → List (Node K V) → ℕ → Type 0
-LeftEnd {K} {V} xs link = (n : Node K V) → slice_get xs link ≡ Some n → n.left ≡ none
+LeftEnd {K} {V} xs link = (n : Node K V) → slice_get xs link ≡ Some n → n.links.left ≡ none
 
 pub record MinTaken {K V : Type 0} (xs ys : List (Node K V)) (at rest : ℕ) (t : Tree K V) : Type 0 where
   pub n : Node K V

@@ -17,12 +17,12 @@ given d f (Some x) = f x
 -- the tree at a link, at most so many nodes deep
 unfoldable pub walk : {K V : Type 0} → ℕ → List (Node K V) → ℕ → Tree K V
 walk zero xs link = leaf
-walk (suc n) xs link = given leaf (λ c. node (item link c.key c.value) (walk n xs c.left) (walk n xs c.right)) (slice_get xs link)
+walk (suc n) xs link = given leaf (λ c. node (item link c.key c.value) (walk n xs c.links.left) (walk n xs c.links.right)) (slice_get xs link)
 
 -- the records of the chain from a link on, at most so many
 unfoldable pub follow : {K V : Type 0} → ℕ → List (Node K V) → ℕ → List (Item K V)
 follow zero xs link = []
-follow (suc n) xs link = given [] (λ c. item link c.key c.value ∷ follow n xs c.left) (slice_get xs link)
+follow (suc n) xs link = given [] (λ c. item link c.key c.value ∷ follow n xs c.links.left) (slice_get xs link)
 
 -- No way down a balanced tree of 1,024 nodes has more than 14.
 unfoldable pub held : {K V : Type 0} → List (Node K V) → ℕ → Tree K V
@@ -40,7 +40,7 @@ entries xs heads = map entry (inorder (held xs heads.root))
 
 -- an unused record, which links the next one
 abbrev pub spare : {K V : Type 0} → K → V → ℕ → Node K V
-spare key value next = record { key = key; value = value; left = next; right = none; height = 0 }
+spare key value next = record { key = key; value = value; links = record { left = next; right = none }; height = 0 }
 
 -- the records of these items are a chain
 abbrev pub Chain : {K V : Type 0} → List (Node K V) → List (Item K V) → Type 0

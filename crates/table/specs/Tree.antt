@@ -34,7 +34,7 @@ uses j (x ∷ xs) = one j x.at + uses j xs
 
 -- the record of a node
 abbrev pub cell : {K V : Type 0} → Item K V → Tree K V → Tree K V → Node K V
-cell x l r = record { key = x.key; value = x.value; left = ptr l; right = ptr r; height = max (tall l) (tall r) + 1 }
+cell x l r = record { key = x.key; value = x.value; links = record { left = ptr l; right = ptr r }; height = max (tall l) (tall r) + 1 }
 
 abbrev pub Rep : {K V : Type 0} → List (Node K V) → Tree K V → Type 0
 Rep xs leaf = Unit {0}

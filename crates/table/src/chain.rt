@@ -6,6 +6,7 @@ ghost use Rattle.table.specs.Parts.{front_at};
 ghost use Rattle.table.specs.Sound.{spare, Chain};
 
 use crate::node::{NONE, Node};
+use crate::side::Links;
 use crate::tree::balance::read;
 
 // Puts a record in front of the chain that begins at `next`.
@@ -14,8 +15,10 @@ pub(crate) fn give_back<K: Copy, V: Copy>(nodes: &mut [Node<K, V>], next: u16, a
     ensures { (n : Node K V) → slice_get nodes.old at ≡ Some n → nodes.new ≡ slice_set nodes.old at (spare n.key n.value next) }
 {
     nodes[at as usize] = Node {
-        left: next,
-        right: NONE,
+        links: Links {
+            left: next,
+            right: NONE,
+        },
         height: 0,
         ..*read(nodes, at)
     };

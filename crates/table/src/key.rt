@@ -21,6 +21,7 @@ impl Key for u64 {
 
     ghost ordered = { Prim.search rules };
 
+    // No derive writes this line: it ties the `<` of Rust, which both keys have already, to the order that the definitions name.
     fn precedes(self, other: u64) -> bool {
         self < other
     }

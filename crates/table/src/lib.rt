@@ -5,6 +5,7 @@ mod chain;
 pub mod key;
 pub mod least;
 pub mod node;
+mod side;
 pub mod table;
 mod tree;
 

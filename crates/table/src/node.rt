@@ -1,8 +1,11 @@
 // The records of a table, and what a table answers.
 ghost use Rattle.std.specs.Prelude.{◌≡◌};
-ghost use Rattle.table.specs.Edit.{item, child_on};
+ghost use Rattle.table.specs.Edit.{item};
 
-// The link to no record. A number and no `Option<u16>`, which takes twice as much: memory is fixed, and a record takes 24 bytes.
+use crate::side::Links;
+
+// The link to no record. A number and no option: memory is fixed, and a record takes 24 bytes. An `Option<u16>` takes 4 bytes, with a
+// tag of its own, and so does an `Option<NonZeroU16>`; with links of either a record took 32, as measured by `size_of`.
 pub(crate) const NONE: u16 = 65535;
 
 // How many records a table has.
@@ -13,8 +16,7 @@ pub(crate) const RECORDS: usize = 1024;
 pub(crate) struct Node<K, V> {
     pub(crate) key: K,
     pub(crate) value: V,
-    pub(crate) left: u16,
-    pub(crate) right: u16,
+    pub(crate) links: Links,
     pub(crate) height: u8,
 }
 
@@ -36,13 +38,6 @@ impl<K: Copy, V: Copy> Node<K, V> {
             key: self.key,
             value: self.value,
         }
-    }
-
-    // The link of one side.
-    pub(crate) fn child(&self, left: bool) -> u16
-        ensures { result ≡ child_on left self.now }
-    {
-        if left { self.left } else { self.right }
     }
 }
 

@@ -5,6 +5,7 @@ ghost use Rattle.table.specs.OneWay.{sound_prop};
 use crate::chain::{chain_all, give_back};
 use crate::key::{Key, LengthKey};
 use crate::node::{Beside, Entry, Heads, Item, NONE, Node, RECORDS};
+use crate::side::Links;
 use crate::tree::balance::read;
 use crate::tree::edit;
 use crate::tree::find::{around, right_end};
@@ -34,8 +35,7 @@ impl<K: Key + Default, V: Copy + Default> Table<K, V> {
         let blank = Node {
             key: K::default(),
             value: V::default(),
-            left: NONE,
-            right: NONE,
+            links: Links::NONE,
             height: 0,
         };
         let mut nodes = [blank; RECORDS];
@@ -72,7 +72,7 @@ impl<K: Key, V: Copy> Table<K, V> {
         if at == NONE {
             return false;
         }
-        let next = read(&self.nodes, at).left;
+        let next = read(&self.nodes, at).links.left;
         let Some(root) = edit::insert(&mut self.nodes, self.heads.root, Item { at, key, value })
         else {
             return false;

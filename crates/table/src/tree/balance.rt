@@ -1,11 +1,12 @@
-// Nodes over two trees: joined as they are, or turned where one is two taller. The side is a flag: its negation is
-// the other side, and one proof serves both.
-ghost use Rattle.std.specs.Prelude.{◌≡◌, ◌+◌, ◌<◌, length, Some};
+// Nodes over two trees: joined as they are, or turned where one is two taller.
+ghost use Rattle.std.specs.Prelude.{◌≡◌, ◌+◌, ◌<◌, ◌∷◌, ◌++◌, length, Some};
 ghost use Rattle.std.specs.List.{slice_get};
 ghost use Rattle.table.specs.Tree.{Tree, Stands, tall, inorder};
-ghost use Rattle.table.specs.Edit.{Room, Joined, Mended, Heavy, Uneven, Balanced, RoomOn, JoinedOn, row_on};
+ghost use Rattle.table.specs.Side.{across};
+ghost use Rattle.table.specs.Edit.{Room, Joined, Mended, Heavy, Uneven, Balanced, tree_on};
 
 use crate::node::{Item, NONE, Node};
+use crate::side::{Links, Side};
 
 // Lends the record at a link, to be read field by field.
 pub(crate) fn read<K: Copy, V: Copy>(nodes: &[Node<K, V>], link: u16) -> &Node<K, V>
@@ -31,88 +32,68 @@ fn height<K: Copy, V: Copy>(nodes: &[Node<K, V>], link: u16) -> u8
 pub(crate) fn join<K: Copy, V: Copy>(
     nodes: &mut [Node<K, V>],
     item: Item<K, V>,
-    left: u16,
-    right: u16,
+    links: Links,
 ) -> u16
-    requires { (l : Tree K V) × (r : Tree K V) × Room nodes.old item left right l r }
-    ensures { (l r : Tree K V) → Room nodes.old item left right l r → Joined nodes.old nodes.new result item l r }
+    requires { (l : Tree K V) × (r : Tree K V) × Room nodes.old item links l r }
+    ensures { (l r : Tree K V) → Room nodes.old item links l r → Joined nodes.old nodes.new result item l r }
 {
-    let height = height(nodes, left).max(height(nodes, right)) + 1;
+    let height = height(nodes, links.left).max(height(nodes, links.right)) + 1;
     nodes[item.at as usize] = Node {
         key: item.key,
         value: item.value,
-        left,
-        right,
+        links,
         height,
     };
     item.at
 }
 
-// Puts a node over two trees, the near one on the left if so asked, and else on the right.
-fn join_on<K: Copy, V: Copy>(
-    nodes: &mut [Node<K, V>],
-    left: bool,
-    item: Item<K, V>,
-    near: u16,
-    far: u16,
-) -> u16
-    requires { (n : Tree K V) × (f : Tree K V) × RoomOn left nodes.old item near far n f }
-    ensures { (n f : Tree K V) → RoomOn left nodes.old item near far n f → JoinedOn left nodes.old nodes.new result item n f }
-{
-    if left {
-        join(nodes, item, near, far)
-    } else {
-        join(nodes, item, far, near)
-    }
-}
-
-// Puts a node over two trees of which the heavy one, on the left if so said and else on the right, is two taller.
+// Puts a node over two trees of which the one on a side is two taller. One proof serves both sides.
 fn turn<K: Copy, V: Copy>(
     nodes: &mut [Node<K, V>],
-    left: bool,
     item: Item<K, V>,
-    heavy: u16,
-    light: u16,
+    links: Links,
+    side: Side,
 ) -> u16
-    requires { (h : Tree K V) × (l : Tree K V) × RoomOn left nodes.old item heavy light h l × Heavy h l }
-    ensures { (h l : Tree K V) → RoomOn left nodes.old item heavy light h l → Heavy h l → Mended nodes.old nodes.new result (row_on left (inorder h) item (inorder l)) (tall h) }
+    requires { (l : Tree K V) × (r : Tree K V) × Room nodes.old item links l r × Heavy (tree_on side l r) (tree_on (across side) l r) }
+    ensures { (l r : Tree K V) → Room nodes.old item links l r → Heavy (tree_on side l r) (tree_on (across side) l r) → Mended nodes.old nodes.new result (inorder l ++ item ∷ inorder r) (tall (tree_on side l r)) }
 {
+    let opposite = side.other();
+    let heavy = links.on(side);
+    let light = links.on(opposite);
     let top = read(nodes, heavy);
-    let outer = top.child(left);
-    let inner = top.child(!left);
+    let outer = top.links.on(side);
+    let inner = top.links.on(opposite);
     let top_item = top.item(heavy);
     if height(nodes, inner) <= height(nodes, outer) {
-        let low = join_on(nodes, left, item, inner, light);
-        join_on(nodes, left, top_item, outer, low)
+        let low = join(nodes, item, Links::of(side, inner, light));
+        join(nodes, top_item, Links::of(side, outer, low))
     } else {
         let mid = read(nodes, inner);
-        let near = mid.child(left);
-        let far = mid.child(!left);
+        let near = mid.links.on(side);
+        let far = mid.links.on(opposite);
         let mid_item = mid.item(inner);
-        let a = join_on(nodes, left, top_item, outer, near);
-        let b = join_on(nodes, left, item, far, light);
-        join_on(nodes, left, mid_item, a, b)
+        let a = join(nodes, top_item, Links::of(side, outer, near));
+        let b = join(nodes, item, Links::of(side, far, light));
+        join(nodes, mid_item, Links::of(side, a, b))
     }
 }
 
-// Puts a node over two trees, the near one on the left if so asked and else on the right, and turns it where one is two taller.
+// Puts a node over two trees, and turns it where one is two taller.
 pub(crate) fn balance<K: Copy, V: Copy>(
     nodes: &mut [Node<K, V>],
-    left: bool,
     item: Item<K, V>,
-    near: u16,
-    far: u16,
+    links: Links,
 ) -> u16
-    requires { (n : Tree K V) × (f : Tree K V) × RoomOn left nodes.old item near far n f × Uneven n f }
-    ensures { (n f : Tree K V) → RoomOn left nodes.old item near far n f → Uneven n f → Balanced left nodes.old nodes.new result item n f }
+    requires { (l : Tree K V) × (r : Tree K V) × Room nodes.old item links l r × Uneven l r }
+    ensures { (l r : Tree K V) → Room nodes.old item links l r → Uneven l r → Balanced nodes.old nodes.new result item l r }
 {
-    let on_near = height(nodes, near);
-    let on_far = height(nodes, far);
-    if on_near > on_far + 1 {
-        turn(nodes, left, item, near, far)
-    } else if on_far > on_near + 1 {
-        turn(nodes, !left, item, far, near)
+    let on_left = height(nodes, links.left);
+    let on_right = height(nodes, links.right);
+    if on_left > on_right + 1 {
+        turn(nodes, item, links, Side::Left)
+    } else if on_right > on_left + 1 {
+        turn(nodes, item, links, Side::Right)
     } else {
-        join_on(nodes, left, item, near, far)
+        join(nodes, item, links)
     }
 }

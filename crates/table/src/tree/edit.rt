@@ -10,6 +10,7 @@ use super::balance::{balance, join, read};
 use super::path::{climb, left_end, seek};
 use crate::key::Key;
 use crate::node::{Item, NONE, Node};
+use crate::side::Links;
 
 // A node that was taken out, and the root of what is left of the tree.
 #[derive(Clone, Copy)]
@@ -32,7 +33,7 @@ pub(crate) fn insert<K: Key, V: Copy>(
     if place.link != NONE {
         return None;
     }
-    let new = join(nodes, item, NONE, NONE);
+    let new = join(nodes, item, Links::NONE);
     Some(climb(nodes, place.path, new))
 }
 
@@ -42,7 +43,7 @@ fn take_min<K: Copy, V: Copy>(nodes: &mut [Node<K, V>], root: u16) -> Taken
     ensures { (t : Tree K V) → Stem nodes.old root t → MinTaken nodes.old nodes.new result.at result.rest t }
 {
     let end = left_end(nodes, root);
-    let right = read(nodes, end.link).right;
+    let right = read(nodes, end.link).links.right;
     let rest = climb(nodes, end.path, right);
     Taken { at: end.link, rest }
 }
@@ -52,14 +53,17 @@ fn lift<K: Copy, V: Copy>(nodes: &mut [Node<K, V>], root: u16) -> u16
     requires { (t : Tree K V) × Stem nodes.old root t }
     ensures { (t : Tree K V) → Stem nodes.old root t → Lifted nodes.old nodes.new root result t }
 {
-    let n = read(nodes, root);
-    let (left, right) = (n.left, n.right);
-    if right == NONE {
-        left
+    let links = read(nodes, root).links;
+    if links.right == NONE {
+        links.left
     } else {
-        let min = take_min(nodes, right);
+        let min = take_min(nodes, links.right);
         let item = read(nodes, min.at).item(min.at);
-        balance(nodes, false, item, min.rest, left)
+        let rest = Links {
+            right: min.rest,
+            ..links
+        };
+        balance(nodes, item, rest)
     }
 }
 

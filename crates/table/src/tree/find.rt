@@ -1,5 +1,6 @@
-// Searches that change nothing. They are loops over links, of which each is read at the one
-// before, and a link is answered as the records have it.
+// Searches that change nothing. They are loops over links, and a link is answered as the records have it. In `right_end`
+// `successors(..).last()` was tried: the library counts `successors` as endless, and `last` must prove ⊥. Cut off by `take` it is no
+// plainer than the loop: it names a number of links, owes that the way has no more, and owes each read at any state of the iterator.
 ghost use Rattle.std.specs.Prelude.{◌≡◌};
 ghost use Rattle.table.specs.Tree.{Tree, inorder};
 ghost use Rattle.table.specs.Search.{Whole};
@@ -28,10 +29,10 @@ pub(crate) fn around<K: Key, V: Copy>(nodes: &[Node<K, V>], root: u16, key: K) -
         let n = read(nodes, link);
         if n.key.precedes(key) {
             below = link;
-            link = n.right;
+            link = n.links.right;
         } else {
             from = link;
-            link = n.left;
+            link = n.links.left;
         }
     }
     Sides { below, from }
@@ -46,7 +47,7 @@ pub(crate) fn right_end<K: Key, V: Copy>(nodes: &[Node<K, V>], root: u16) -> u16
     let mut link = root;
     while link != NONE {
         end = link;
-        link = read(nodes, link).right;
+        link = read(nodes, link).links.right;
     }
     end
 }

@@ -1,5 +1,6 @@
-// Ways through a tree: down from the root, noted step by step, and back up. The ways down are loops over links, of
-// which each is read at the one before.
+// Ways through a tree: down from the root, noted step by step, and back up. The ways down are loops over links. In `left_end` a `for`
+// over `successors` was tried: the loop still keeps the link before, reads a left link at two places, and its proof did not close
+// (`loop-next-init`, that the closure may be called after any calls).
 ghost use Rattle.std.specs.Prelude.{◌≡◌, ℕ, ◌≤◌, List, ◌++◌};
 ghost use Rattle.table.specs.Tree.{Tree, tall, inorder};
 ghost use Rattle.table.specs.Path.{Frame, Climb, Climbed, front, back, top};
@@ -9,13 +10,14 @@ ghost use Rattle.table.specs.Remove.{Stem, Leftward, LeftEnd};
 use super::balance::{balance, read};
 use crate::key::Key;
 use crate::node::{NONE, Node};
+use crate::side::{Links, Side};
 use arrayvec::ArrayVec;
 
 // One step of a way down: the node that it leaves, and to which side.
 #[derive(Clone, Copy, Default)]
 pub(crate) struct Step {
     pub(crate) at: u16,
-    pub(crate) left: bool,
+    pub(crate) side: Side,
 }
 
 // The most steps of a way down a tree of at most 1,024 nodes.
@@ -40,9 +42,9 @@ pub(crate) fn climb<K: Copy, V: Copy>(nodes: &mut [Node<K, V>], path: Path, link
     let mut sub = link;
     while let Some(step) = path.pop() {
         let n = read(nodes, step.at);
-        let other = n.child(!step.left);
+        let other = n.links.on(step.side.other());
         let item = n.item(step.at);
-        sub = balance(nodes, step.left, item, sub, other);
+        sub = balance(nodes, item, Links::of(step.side, sub, other));
     }
     sub
 }
@@ -59,15 +61,15 @@ pub(crate) fn seek<K: Key, V: Copy>(nodes: &[Node<K, V>], root: u16, key: K) -> 
         if key.precedes(n.key) {
             path.push(Step {
                 at: link,
-                left: true,
+                side: Side::Left,
             });
-            link = n.left;
+            link = n.links.left;
         } else if n.key.precedes(key) {
             path.push(Step {
                 at: link,
-                left: false,
+                side: Side::Right,
             });
-            link = n.right;
+            link = n.links.right;
         } else {
             break;
         }
@@ -84,13 +86,13 @@ pub(crate) fn left_end<K: Copy, V: Copy>(nodes: &[Node<K, V>], root: u16) -> Pla
     let mut link = root;
     loop {
         let n = read(nodes, link);
-        if n.left == NONE {
+        if n.links.left == NONE {
             return Place { path, link };
         }
         path.push(Step {
             at: link,
-            left: true,
+            side: Side::Left,
         });
-        link = n.left;
+        link = n.links.left;
     }
 }

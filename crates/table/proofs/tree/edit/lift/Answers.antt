@@ -5,26 +5,26 @@ use Rattle.table.proofs.tree.edit.lift.Goals as goal
 
 pub take_min-min-requires : goal.take_min-min-requires
 take_min-min-requires g c =
-    let k = lift_ready _ _ c.requires.0 _ c.requires.1 c.read-n.ensures c.if-right.false in
+    let k = lift_ready _ _ c.requires.0 _ c.requires.1 c.read.ensures c.if-links.false in
     (k.1, k.2.stem_right)
 
-pub read-requires : goal.read-requires
-read-requires g c =
-    let k = lift_ready _ _ c.requires.0 _ c.requires.1 c.read-n.ensures c.if-right.false in
+pub read-requires-else-links : goal.read-requires-else-links
+read-requires-else-links g c =
+    let k = lift_ready _ _ c.requires.0 _ c.requires.1 c.read.ensures c.if-links.false in
     let m = c.take_min-min.ensures k.1 k.2.stem_right in
     slice_get_within _ _ _ m.held
 
 pub balance-requires : goal.balance-requires
 balance-requires g c =
-    let k = lift_ready _ _ c.requires.0 _ c.requires.1 c.read-n.ensures c.if-right.false in
+    let k = lift_ready _ _ c.requires.0 _ c.requires.1 c.read.ensures c.if-links.false in
     let m = c.take_min-min.ensures k.1 k.2.stem_right in
-    (m.tree, k.0, rw c.item-item.ensures (k.2.room _ _ _ _ m c.read.ensures), k.2.uneven _ _ _ m)
+    (k.0, m.tree, rw c.item-item.ensures (k.2.room _ _ _ _ m c.read-else-links.ensures), k.2.uneven _ _ _ m)
 
-pub returns-then-right : goal.returns-then-right
-returns-then-right g c = λ t s. lift_leaf _ _ t _ s c.read-n.ensures c.if-right.true
+pub returns-then-links : goal.returns-then-links
+returns-then-links g c = λ t s. lift_leaf _ _ t _ s c.read.ensures c.if-links.true
 
-pub returns-else-right : goal.returns-else-right
-returns-else-right g c = λ t s.
-    let k = lift_ready _ _ t _ s c.read-n.ensures c.if-right.false in
+pub returns-else-links : goal.returns-else-links
+returns-else-links g c = λ t s.
+    let k = lift_ready _ _ t _ s c.read.ensures c.if-links.false in
     let m = c.take_min-min.ensures k.1 k.2.stem_right in
-    k.2.next _ _ _ _ _ _ m c.read.ensures (rw c.item-item.ensures at (c.balance.ensures m.tree k.0 (rw c.item-item.ensures (k.2.room _ _ _ _ m c.read.ensures)) (k.2.uneven _ _ _ m)))
+    k.2.next _ _ _ _ _ _ m c.read-else-links.ensures (rw c.item-item.ensures at (c.balance.ensures k.0 m.tree (rw c.item-item.ensures (k.2.room _ _ _ _ m c.read-else-links.ensures)) (k.2.uneven _ _ _ m)))
