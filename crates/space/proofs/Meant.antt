@@ -4,15 +4,12 @@ use Rattle.std.proofs.lemmas.Bool.{le-ltb, le-leb, lt-leb, and_cases, and_parts,
 use Rattle.slab_log.specs.Limits.{most_extents}
 use Rattle.slab_log.specs.Sectors.{Sectors, used, meets, runs}
 use Rattle.slab_log.specs.Replay.{grant, give_back, granting, returning}
-use Rattle.slab_log.specs.declared.fault.Fault.TheVariants.{Taken, Again, Crowded}
+use Rattle.slab_log.specs.declared.fault.Fault.TheVariants.{Crowded}
 
 module _ (size : ℕ) (free : Sectors) (start len : ℕ) where
   module _ (fits : start + len ≤ size) where
     inside : ltb size (start + len) ≡ false
     inside = le-ltb size (start + len) fits
-
-    pub granted_taken : meets (used size free) start len ≡ true → granting size free start len ≡ Err Taken
-    granted_taken met = rw (inside, met)
 
     pub granted : meets (used size free) start len ≡ false → runs (grant free start len) size ≤ most_extents →
         granting size free start len ≡ Ok (grant free start len)
@@ -21,9 +18,6 @@ module _ (size : ℕ) (free : Sectors) (start len : ℕ) where
     pub granted_crowded : meets (used size free) start len ≡ false → most_extents < runs (grant free start len) size →
         granting size free start len ≡ Err Crowded
     granted_crowded met many = let full = lt-leb (runs (grant free start len) size) most_extents many in rw (inside, met, full)
-
-    pub returned_again : meets free start len ≡ true → returning size free start len ≡ Err Again
-    returned_again met = rw (inside, met)
 
     pub returned : meets free start len ≡ false → runs (give_back free start len) size ≤ most_extents →
         returning size free start len ≡ Ok (give_back free start len)
