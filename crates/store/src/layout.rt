@@ -72,7 +72,7 @@ pub(crate) fn empty_in(area: &mut [u8])
     ensures emptied { words_of area.new ≡ [] }
     ensures changes { EmptyChanges area.old area.new }
 {
-    if let Ok(_) = check(area) {
+    if check(area).is_ok() {
         write_count(area, 0);
     }
 }
