@@ -6,7 +6,7 @@ use Rattle.table.specs.Table.{pairs}
 use Rattle.space.specs.Extents.{Starts, free_of, in_list}
 use Rattle.space.specs.Free.{sectors_of, free_in}
 use Rattle.space.specs.declared.run.SectorRun.{SectorRun}
-use Rattle.space.specs.declared.search.Around.{Around}
+use Rattle.space.specs.declared.search.Edges.{Edges}
 use Rattle.space.specs.declared.space.Space.{Space}
 
 -- one free extent more has a place
@@ -66,11 +66,16 @@ pub record RightEdge (es : Starts) (end last : ℕ) : Type 0 where
   pub alone : (s : ℕ) → s + 1 ≡ end → free_of es s ≡ false → last ≡ end → free_of es end ≡ false
   pub alone_first : last ≡ end → end ≡ 0 → free_of es end ≡ false
 
--- whether a run has a free sector, and the free extents beside it, of which the one behind it counts where it has none
-pub record Surrounds (es : Starts) (start len : ℕ) (around : Around) : Type 0 where
-  pub met : around.met ≡ meets (free_of es) start len
-  pub left : LeftEdge es start around.first
-  pub right : meets (free_of es) start len ≡ false → RightEdge es (start + len) around.last
+-- no sector of a run is free, and these are the edges of the free extents beside it
+pub record Apart (es : Starts) (start len : ℕ) (edges : Edges) : Type 0 where
+  pub unmet : meets (free_of es) start len ≡ false
+  pub left : LeftEdge es start edges.first
+  pub right : RightEdge es (start + len) edges.last
+
+-- the same, or nothing where a sector of the run is free
+abbrev pub Surrounds : Starts → ℕ → ℕ → Option Edges → Type 0
+Surrounds es start len (Some edges) = Apart es start len edges
+Surrounds es start len None = meets (free_of es) start len ≡ true
 
 -- where the first longest run of the set that begins at or after a sector begins; the size, where it would begin behind the slab
 pub record UsedFrom (set : Sectors) (size sector start : ℕ) : Type 0 where

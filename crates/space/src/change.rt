@@ -6,7 +6,7 @@ ghost use Rattle.space.specs.Free.{sectors_of, free_in, Changes};
 ghost use Rattle.space.specs.Tables.{HasPlace, Moved, Holds};
 
 use crate::run::SectorRun;
-use crate::search::Around;
+use crate::search::Edges;
 use crate::space::Space;
 use slab_log::{Extent, Fault};
 
@@ -74,10 +74,7 @@ impl Space {
         if end > self.size.sectors {
             return Err(Fault::Bounds);
         }
-        let Around { met, first, last } = self.around(run);
-        if met {
-            return Err(Fault::Again);
-        }
+        let Edges { first, last } = self.edges(run).ok_or(Fault::Again)?;
         let alone = (first == start) & (last == end);
         if alone & (self.by_start.len() >= MOST_EXTENTS) {
             return Err(Fault::Crowded);

@@ -65,7 +65,7 @@ impl Space {
     pub fn has_free(&self, extent: Extent) -> bool
         ensures { result ≡ meets (free_in self.now) extent.start extent.length }
     {
-        self.around(extent.into()).met
+        self.edges(extent.into()).is_none()
     }
 
     // How many free extents there would be once the extent is given back; nothing where it cannot be, since it ends beyond
@@ -78,13 +78,10 @@ impl Space {
         if end > self.size.sectors {
             return None;
         }
-        let around = self.around(extent.into());
-        if around.met {
-            return None;
-        }
+        let edges = self.edges(extent.into())?;
         // Each neighbour that is free is one extent fewer.
-        let left = (start - around.first).min(1) as usize;
-        let right = (around.last - end).min(1) as usize;
+        let left = (start - edges.first).min(1) as usize;
+        let right = (edges.last - end).min(1) as usize;
         Some(self.by_start.len() + 1 - left - right)
     }
 }

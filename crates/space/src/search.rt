@@ -15,11 +15,9 @@ pub(crate) struct Sides {
     pub(crate) from: Option<SectorRun>,
 }
 
-// What lies around a run of sectors.
+// The edges of the free extents beside a run of used sectors.
 #[derive(Clone, Copy)]
-pub(crate) struct Around {
-    // Whether one of its sectors is free.
-    pub(crate) met: bool,
+pub(crate) struct Edges {
     // Where the free extent begins that ends at the run; the run's start, if there is none.
     pub(crate) first: u64,
     // Where the free extent ends that begins behind the run; the run's end, if there is none.
@@ -51,22 +49,25 @@ impl Space {
         })
     }
 
-    // What lies around a run; the sector behind it counts only where no sector of the run is free.
-    pub(crate) fn around(&self, run: SectorRun) -> Around
+    // The edges of the free extents beside a run; nothing where a sector of the run is free.
+    pub(crate) fn edges(&self, run: SectorRun) -> Option<Edges>
         ensures { Surrounds (starts self.now.by_start) run.start run.len result }
     {
         let Sides { before, from } = self.sides(run.start);
         let start = run.start;
         let end = run.end();
-        Around {
-            met: before.is_some_and(|free| start < free.end())
-                | from.is_some_and(|free| free.start < end),
+        let met = before.is_some_and(|free| start < free.end())
+            | from.is_some_and(|free| free.start < end);
+        if met {
+            return None;
+        }
+        Some(Edges {
             first: before
                 .filter(|free| free.end() == start)
                 .map_or(start, |free| free.start),
             last: from
                 .filter(|free| free.start == end)
                 .map_or(end, |free| free.end()),
-        }
+        })
     }
 }

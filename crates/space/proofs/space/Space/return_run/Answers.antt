@@ -1,11 +1,12 @@
 -- The tests are made in order; then the free extents beside the run are taken out, and the grown one is put in.
-use Rattle.std.proofs.Common.{◌+◌, ◌-◌, ◌<◌, ◌≤◌, Ok, sym, refl, ap, ◌∙◌, subst, inl, inr, arith}
+use Rattle.std.proofs.Common.{◌+◌, ◌-◌, ◌<◌, ◌≤◌, Ok, sym, refl, ap, ◌∙◌, subst, inl, inr, rules, arith}
 use Rattle.std.proofs.lemmas.Bool.{cases_lt}
 use Rattle.slab_log.specs.Limits.{most_extents}
 use Rattle.slab_log.specs.Sectors.{Run, runs}
 use Rattle.slab_log.specs.Replay.{grant, give_back}
+use Rattle.table.specs.Table.{pairs as starts}
 use Rattle.space.specs.Free.{sectors_of, free_in}
-use Rattle.space.specs.Tables.{Clear, Moved}
+use Rattle.space.specs.Tables.{Apart, Clear, Moved}
 use Rattle.space.proofs.Spaced.{listed_run}
 use Rattle.space.proofs.Joining.{right_stays, joined_clear, joined_is, joined_count}
 use Rattle.space.proofs.Spaces.{spaced_in, lies_in, few_in, runs_moved}
@@ -16,12 +17,12 @@ pub returns-then-alone-len : goal.returns-then-alone-len
 returns-then-alone-len c =
     let now = c.args.self.now in
     let fits = rw (c.end-end.ensures) at c.if-end-self.false in
-    let around = c.around-met.ensures in
-    let none = sym around.met ∙ c.if-met.false in
-    let left = around.left in
-    let right = around.right none in
+    let apart : Apart (starts now.by_start) c.args.run.start c.args.run.len c.in_ok-first.field-0 = search rules in
+    let none = apart.unmet in
+    let left = apart.left in
+    let right = apart.right in
     let full =
-    full_alone c.around-met.result.first c.args.run.start c.around-met.result.last (c.args.run.start + c.args.run.len) c.len.result (rw (c.end-end.ensures) at c.if-alone-len.true) in
+    full_alone c.in_ok-first.field-0.first c.args.run.start c.in_ok-first.field-0.last (c.args.run.start + c.args.run.len) c.len.result (rw (c.end-end.ensures) at c.if-alone-len.true) in
     let more =
     joined_count _ _ (spaced_in now) c.args.run.start c.args.run.len _ _ c.args.run.some fits none left right in
     let many : most_extents < runs (give_back (free_in now) c.args.run.start c.args.run.len) (sectors_of now) =
@@ -32,12 +33,12 @@ pub take_end-requires-2 : goal.take_end-requires-2
 take_end-requires-2 c =
     let now = c.args.self.now in
     let fits = rw (c.end-end.ensures) at c.if-end-self.false in
-    let around = c.around-met.ensures in
-    let none = sym around.met ∙ c.if-met.false in
-    let left = around.left in
-    let right = around.right none in
+    let apart : Apart (starts now.by_start) c.args.run.start c.args.run.len c.in_ok-first.field-0 = search rules in
+    let none = apart.unmet in
+    let left = apart.left in
+    let right = apart.right in
     let end = c.args.run.start + c.args.run.len in
-    let long = c.around-met.result.last - end in
+    let long = c.in_ok-first.field-0.last - end in
     let stays =
     right_stays _ _ (spaced_in now) c.args.run.start c.args.run.len _ _ c.args.run.some fits none left right in
     rw (c.end-end.ensures) (λ one. listed_run 0 _ _ (spaced_in c.take_end.new.self) end long (subst (λ f. Run f end long) (sym c.take_end.ensures.moved.sectors) (stays (omega arith))))
@@ -47,13 +48,13 @@ put_in-requires c =
     let now = c.args.self.now in
     let start = c.args.run.start in
     let end = start + c.args.run.len in
-    let first = c.around-met.result.first in
-    let last = c.around-met.result.last in
+    let first = c.in_ok-first.field-0.first in
+    let last = c.in_ok-first.field-0.last in
     let fits = rw (c.end-end.ensures) at c.if-end-self.false in
-    let around = c.around-met.ensures in
-    let none = sym around.met ∙ c.if-met.false in
-    let left = around.left in
-    let right = around.right none in
+    let apart : Apart (starts now.by_start) c.args.run.start c.args.run.len c.in_ok-first.field-0 = search rules in
+    let none = apart.unmet in
+    let left = apart.left in
+    let right = apart.right in
     let low = left.low in
     let high = right.high in
     let clear =
@@ -75,13 +76,13 @@ returns c =
     let now = c.args.self.now in
     let start = c.args.run.start in
     let end = start + c.args.run.len in
-    let first = c.around-met.result.first in
-    let last = c.around-met.result.last in
+    let first = c.in_ok-first.field-0.first in
+    let last = c.in_ok-first.field-0.last in
     let fits = rw (c.end-end.ensures) at c.if-end-self.false in
-    let around = c.around-met.ensures in
-    let none = sym around.met ∙ c.if-met.false in
-    let left = around.left in
-    let right = around.right none in
+    let apart : Apart (starts now.by_start) c.args.run.start c.args.run.len c.in_ok-first.field-0 = search rules in
+    let none = apart.unmet in
+    let left = apart.left in
+    let right = apart.right in
     let is =
     joined_is _ _ (spaced_in now) start c.args.run.len _ _ c.args.run.some fits none left right in
     let emptied = rw (c.end-end.ensures) at c.take_end-2.ensures.moved.sectors ∙ ap (λ f. grant f end (last - end)) c.take_end.ensures.moved.sectors in
