@@ -1,4 +1,5 @@
-// Writing replies. No Display for them: it is no plainer, as add_reply also owes that all of a line is added or nothing.
+// Writing replies. No Display for them: one that is written to an ArrayString first was proved, but the script of bench/run took 1.5 %
+// longer and one of grants alone 7 %, and no clause says that a line finds room there.
 ghost use Rattle.std.specs.Prelude.{◌≡◌, ◌++◌};
 ghost use Rattle.script.specs.Replies.{text_of, line_of, AddsReply, Puts};
 
