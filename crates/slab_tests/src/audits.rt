@@ -1,6 +1,6 @@
 // An audit of a slab that is not loaded: what its log holds, or its first fault.
-use crate::helpers::store_of;
 use disk_slab::{Audit, Cold, Figures, Tally};
+use samples::store_of;
 use slab_log::{Fault, Size, Stop};
 use std::process::Abort;
 use std::test::Fail;

@@ -16,6 +16,7 @@ pub(crate) fn again<S: LogStore>(slab: Live<S>) -> Live<S> {
     Cold::open(slab.close(), size).load()
 }
 
+// What a slab tells of itself. Four numbers and no Figures, with which each of 32 calls takes ten lines in place of one.
 pub(crate) fn figures<S: LogStore>(
     rt: &impl Abort,
     slab: &Live<S>,
@@ -84,15 +85,6 @@ pub(crate) fn next_is<S: LogStore>(
 ) -> Result<(), Fail> {
     assert_eq!(rt; slab.next(sector), Some(Extent::new(start, length)?));
     Ok(())
-}
-
-// An own store with these words. No crate of tests can use another's, so two have this.
-pub(crate) fn store_of(words: &[u64]) -> Result<OwnStore, Refusal> {
-    let mut store = OwnStore::new();
-    for word in words {
-        store.add(*word)?;
-    }
-    Ok(store)
 }
 
 // Of the sectors `first`, `first + 2`, `first + 4` and so on the one at a place, as an extent.

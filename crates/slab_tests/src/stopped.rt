@@ -1,6 +1,7 @@
 // A slab whose log has a fault is stopped: its calls refuse with the fault and its place, and its figures are 0.
-use crate::helpers::{figures, refuses_return, refuses_want, store_of};
+use crate::helpers::{figures, refuses_return, refuses_want};
 use disk_slab::{Cold, Live};
+use samples::store_of;
 use slab_log::{Fault, Refusal, Size, Stop};
 use std::process::Abort;
 use std::test::Fail;

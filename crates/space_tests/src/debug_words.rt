@@ -1,5 +1,6 @@
 // Debug words, whatever their action, change nothing, and count as places.
-use crate::helpers::{figures, stop_at, store_of};
+use crate::helpers::{figures, stop_at};
+use samples::store_of;
 use slab_log::{DebugWord, Entry, Fault, Size, Stop};
 use space::Space;
 use std::test::Fail;

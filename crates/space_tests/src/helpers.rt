@@ -1,24 +1,17 @@
-// What several tests share: the figures of a space, stores of given words, and where a replay stops.
-use slab_log::{Refusal, Size, Stop};
+// What several tests share: the figures of a space, and where a replay stops.
+use samples::store_of;
+use slab_log::{Size, Stop};
 use space::Space;
 use std::process::Abort;
 use std::test::Fail;
-use store::{LogStore, OwnStore};
+use store::LogStore;
 
-// How many sectors are free, in how many extents, and the length of the longest.
+// How many sectors are free, in how many extents, and the length of the longest. A space tells them one by one; a struct of the three
+// would only make each of 24 calls longer.
 pub(crate) fn figures(rt: &impl Abort, space: &Space, sectors: u64, extents: usize, longest: u64) {
     assert_eq!(rt; space.free_sectors(), sectors);
     assert_eq!(rt; space.free_extents(), extents);
     assert_eq!(rt; space.longest(), longest);
-}
-
-// An own store with these words. No crate of tests can use another's, so two have this.
-pub(crate) fn store_of(words: &[u64]) -> Result<OwnStore, Refusal> {
-    let mut store = OwnStore::new();
-    for word in words {
-        store.add(*word)?;
-    }
-    Ok(store)
 }
 
 // Where and why the replay of a store's log stops, or nothing where it does not.

@@ -1,4 +1,5 @@
 // A log of 10,000 words, of a random history, replays to what a plain map of the sectors says, and so does its condensed log.
+use samples::Random;
 use slab_log::{Effect, Extent, Size};
 use space::Space;
 use std::process::Abort;
@@ -11,12 +12,6 @@ const WORDS: usize = 10_000;
 
 // A header of 16 bytes, and 8 for each word.
 const BYTES: usize = 80_016;
-
-// The next number of the sequence. No crate of tests can use another's, so two have such a one.
-fn step(seed: u64) -> u64 {
-    seed.wrapping_mul(6_364_136_223_846_793_005)
-        .wrapping_add(1_442_695_040_888_963_407)
-}
 
 fn is_free(map: &[bool], sector: usize) -> bool {
     map.get(sector).copied().unwrap_or(false)
@@ -59,9 +54,7 @@ fn write_history<S: LogStore>(
     map: &mut [bool],
     seed: u64,
 ) -> Result<(), Fail> {
-    let mut random = seed;
-    for _ in 0..WORDS {
-        random = step(random);
+    for random in Random::from_seed(seed).take(WORDS) {
         one_change(store, map, random)?;
     }
     assert_eq!(rt; store.count(), WORDS);

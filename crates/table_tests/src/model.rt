@@ -5,17 +5,11 @@ use table::{Entry, LengthKey};
 
 pub const STARTS: usize = 2048;
 
-// The next of a row of pseudo-random numbers. No crate of tests can use another's, so two have such a one.
-pub(crate) fn next(seed: u64) -> u64 {
-    seed.wrapping_mul(6364136223846793005)
-        .wrapping_add(1442695040888963407)
-}
-
 // A start from a pseudo-random number.
-pub(crate) fn pick(seed: u64) -> usize
+pub(crate) fn pick(random: u64) -> usize
     ensures { result < 2048 }
 {
-    (seed >> 33) as usize % STARTS
+    (random >> 33) as usize % STARTS
 }
 
 // The span that stands for a start: 64 starts to a length, so that both orders are one.

@@ -1,5 +1,6 @@
 // Some thousand pseudo-random calls.
 use crate::model::*;
+use samples::{Random, step};
 use std::fmt::Debug;
 use std::process::Abort;
 use table::{Key, LengthTable, StartTable, Table};
@@ -33,14 +34,12 @@ fn starts(rt: HostRuntime) {
     let mut table = StartTable::new();
     let mut lengths = [0u64; STARTS];
     let mut count: u64 = 0;
-    let mut seed: u64 = 1;
-    for _ in 0..4000 {
-        seed = next(seed);
-        let at = pick(seed);
+    for random in Random::from_seed(1).take(4000) {
+        let at = pick(random);
         let had = lengths[at];
         assert_eq!(rt; table.get(at as u64).unwrap_or(0), had);
-        if seed >> 62 != 0 {
-            let len = seed % 1000 + 1;
+        if random >> 62 != 0 {
+            let len = random % 1000 + 1;
             let took = table.insert(at as u64, len);
             assert_eq!(rt; took, had == 0 && count < 1024);
             if took {
@@ -55,7 +54,7 @@ fn starts(rt: HostRuntime) {
             }
         }
         assert_eq!(rt; table.len() as u64, count);
-        let other = pick(next(seed));
+        let other = pick(step(random));
         same_keys(&rt, &table, &lengths, other, |start| start as u64);
         let low = table.lowest_from(other as u64);
         assert_eq!(rt;
@@ -71,13 +70,11 @@ fn spans(rt: HostRuntime) {
     let mut table = LengthTable::new();
     let mut there = [0u64; STARTS];
     let mut count: u64 = 0;
-    let mut seed: u64 = 7;
-    for _ in 0..4000 {
-        seed = next(seed);
-        let at = pick(seed);
+    for random in Random::from_seed(7).take(4000) {
+        let at = pick(random);
         let had = there[at] != 0;
         assert_eq!(rt; table.get(span_of(at)).is_some(), had);
-        if seed >> 63 == 0 {
+        if random >> 63 == 0 {
             let took = table.insert(span_of(at), ());
             assert_eq!(rt; took, !had && count < 1024);
             if took {
@@ -92,6 +89,6 @@ fn spans(rt: HostRuntime) {
             }
         }
         assert_eq!(rt; table.len() as u64, count);
-        same_keys(&rt, &table, &there, pick(next(seed)), span_of);
+        same_keys(&rt, &table, &there, pick(step(random)), span_of);
     }
 }
