@@ -41,10 +41,11 @@ impl<S: LogStore> Live<S> {
         ensures leaves { view S.LogStore self.new ≡ with_words (view S.LogStore self.old) (S.LogStore.words self.new.store) }
         ensures room { NeverFull result }
     {
-        match &self.space {
-            Ok(space) => condense(space, &mut self.store),
-            Err(stop) => Err(Refusal::Stopped(*stop)),
-        }
+        let space = self
+            .space
+            .as_ref()
+            .map_err(|stop| Refusal::Stopped(*stop))?;
+        condense(space, &mut self.store)
     }
 
     // The figures; those of a stopped slab are 0, but for the number of words.

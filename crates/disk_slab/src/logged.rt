@@ -1,5 +1,5 @@
-// Changes of the free sectors together with the log that says them. The two are arguments: of a struct that lends both, a clause
-// names what a call leaves by position alone (`self.exit.1.0.now`).
+// Changes of the free sectors together with the log that says them. The two are arguments: a struct that lends both names what a call
+// leaves by position alone where it is given (`self.exit.1.0.now`), and owes a clause that it still lends the same two where it is lent.
 ghost use Rattle.std.specs.Prelude.{◌≡◌};
 ghost use Rattle.disk_slab.specs.View.{running};
 ghost use Rattle.disk_slab.specs.Answers.{Allocates, after_allocate, Frees, after_free, Condenses, with_words};
@@ -29,9 +29,7 @@ pub(crate) fn grant<S: LogStore>(
         length: want,
     };
     add_extent(store, Effect::Allocates, extent)?;
-    let Ok(()) = space.grant(extent) else {
-        unreachable();
-    };
+    space.grant(extent).unwrap();
     Ok(extent)
 }
 
@@ -45,7 +43,7 @@ pub(crate) fn give_back<S: LogStore>(
     ensures leaves { running S.LogStore space.new store.new ≡ after_free (running S.LogStore space.old store.old) extent result }
 {
     // Why there is no such number is asked here: as an error of `extents_after` it would be a fault of replay, of which all but
-    // two could not come.
+    // two could not come, or an enum of two causes for this one call.
     let Some(standing) = space.extents_after(extent) else {
         if extent.start + extent.length > space.size().sectors {
             return Err(Refusal::BeyondSlab);
@@ -56,9 +54,7 @@ pub(crate) fn give_back<S: LogStore>(
         return Err(Refusal::TooManyExtents);
     }
     add_extent(store, Effect::Frees, extent)?;
-    let Ok(()) = space.give_back(extent) else {
-        unreachable();
-    };
+    space.give_back(extent).unwrap();
     Ok(())
 }
 

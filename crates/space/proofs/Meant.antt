@@ -1,10 +1,14 @@
 -- What granting and giving back mean, once their tests are known.
-use Rattle.std.proofs.Common.{◌≡◌, ℕ, ◌+◌, ◌<◌, ◌≤◌, true, false, ◌&&◌, eqb, ltb, leb, ◌⊎◌, Ok, Err, inl, inr}
+use Rattle.std.proofs.Common.{◌≡◌, ℕ, ◌+◌, ◌<◌, ◌≤◌, true, false, ◌&&◌, eqb, ltb, leb, ◌⊎◌, Result, Ok, Err, refl, inl, inr, arith}
 use Rattle.std.proofs.lemmas.Bool.{le-ltb, le-leb, lt-leb, and_cases, and_parts, eqb-true, eqb-false, leb-true, leb-false}
+use Rattle.std.specs.Prelude.{IsOk}
 use Rattle.slab_log.specs.Limits.{most_extents}
 use Rattle.slab_log.specs.Sectors.{Sectors, used, meets, runs}
 use Rattle.slab_log.specs.Replay.{grant, give_back, granting, returning}
+use Rattle.slab_log.specs.declared.fault.Fault.{Fault}
 use Rattle.slab_log.specs.declared.fault.Fault.TheVariants.{Crowded}
+use Rattle.space.specs.Free.{Changes}
+use Rattle.space.specs.declared.space.Space.{Space}
 
 module _ (size : ℕ) (free : Sectors) (start len : ℕ) where
   module _ (fits : start + len ≤ size) where
@@ -26,6 +30,11 @@ module _ (size : ℕ) (free : Sectors) (start len : ℕ) where
     pub returned_crowded : meets free start len ≡ false → most_extents < runs (give_back free start len) size →
         returning size free start len ≡ Err Crowded
     returned_crowded met many = let full = lt-leb (runs (give_back free start len) size) most_extents many in rw (inside, met, full)
+
+-- what means a set of sectors is not refused
+pub no_fault : (before after : Space) (meant : Result Sectors Fault) (free : Sectors) (r : Result (Unit {0}) Fault) → meant ≡ Ok free → Changes before meant after r → IsOk r
+no_fault before after meant free (Ok u) fine done = refl
+no_fault before after meant free (Err f) fine fault = let z : ◌≡◌ {A = ℕ} 0 1 = cc in absurd (omega arith)
 
 -- the run has a free extent beside it, or there is room for one more
 pub room_left : (first start last end n : ℕ) → ((eqb first start && eqb last end) && leb most_extents n) ≡ false →

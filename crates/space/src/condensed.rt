@@ -30,9 +30,7 @@ impl Space {
         let needed = self.condensed_len();
         room_for(out, needed)?;
         for extent in self.used_runs() {
-            let Ok(()) = add_extent(out, Effect::Allocates, extent) else {
-                unreachable();
-            };
+            add_extent(out, Effect::Allocates, extent).unwrap();
         }
         Ok(needed)
     }

@@ -14,9 +14,7 @@ pub fn add_extent<S: LogStore>(store: &mut S, effect: Effect, extent: Extent) ->
 {
     room_for(store, extent.entries())?;
     for word in extent.words(effect) {
-        let Ok(()) = store.add(word) else {
-            unreachable();
-        };
+        store.add(word).unwrap();
     }
     Ok(())
 }

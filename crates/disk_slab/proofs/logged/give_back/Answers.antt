@@ -1,10 +1,10 @@
 -- The tests are made in order, the return is logged, and then its sectors are free.
-use Rattle.std.proofs.Common.{◌≡◌, ℕ, refl, ap, ⊎_elim, arith}
+use Rattle.std.proofs.Common.{refl, ap, ⊎_elim, arith}
 use Rattle.std.proofs.lemmas.Result.{err_from_is_err_and}
 use Rattle.slab_log.specs.declared.entry.Effect.TheVariants.{Frees as Freeing}
 use Rattle.slab_log.proofs.Written.{words_length}
 use Rattle.space.specs.Free.{sectors_of, free_in}
-use Rattle.space.proofs.Meant.{returned}
+use Rattle.space.proofs.Meant.{returned, no_fault}
 use Rattle.disk_slab.specs.Answers.Frees.{beyond, already, too_many, freed}
 use Rattle.disk_slab.proofs.Views.{same_running}
 use Rattle.disk_slab.proofs.Written.{return_lacks}
@@ -39,21 +39,19 @@ returns-in_err-add_extent g c =
       leaves = same_running refl full.kept full.adds.2 refl;
     })
 
-pub unreachable-requires : goal.unreachable-requires
-unreachable-requires g c =
+pub unwrap-requires : goal.unwrap-requires
+unwrap-requires g c =
     let now = c.args.space.now in
     let after = c.in-Some.ensures in
     let fine = returned (sectors_of now) (free_in now) c.args.extent.start c.args.extent.length after.0 after.1 (omega arith) in
-    let fault = c.in_default-give_back.ensures.0 in
-    let z : ◌≡◌ {A = ℕ} 0 1 = cc in
-    omega arith
+    no_fault _ _ _ _ c.give_back.result fine c.give_back.ensures
 
 pub returns : goal.returns
 returns g c =
     let now = c.args.space.now in
     let after = c.in-Some.ensures in
     let fine = returned (sectors_of now) (free_in now) c.args.extent.start c.args.extent.length after.0 after.1 (omega arith) in
-    let done = c.in-Ok.ensures in
+    let done = rw (c.unwrap.ensures) at c.give_back.ensures in
     let logged = c.in_ok-add_extent.ensures in
     let n = words_length Freeing c.args.extent.start c.args.extent.length (omega (arith, c.args.extent.some)) in
     record {

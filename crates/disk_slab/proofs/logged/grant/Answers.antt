@@ -1,10 +1,11 @@
 -- The best fit is found, its front is logged, and then it is granted.
-use Rattle.std.proofs.Common.{◌≡◌, ℕ, None, Some, Err, refl, ap, rules, arith}
+use Rattle.std.proofs.Common.{◌≡◌, None, Some, Err, refl, ap, rules, arith}
 use Rattle.std.proofs.lemmas.Result.{err_from_is_err_and}
 use Rattle.slab_log.specs.declared.entry.Effect.TheVariants.{Allocates as Allocating}
 use Rattle.slab_log.specs.declared.refusal.Refusal.TheVariants.{NoSpace}
 use Rattle.space.specs.Free.{free_in, Fits}
 use Rattle.slab_log.proofs.Written.{words_length}
+use Rattle.space.proofs.Meant.{no_fault}
 use Rattle.disk_slab.specs.Answers.Allocates.{no_want, no_space, granted}
 use Rattle.disk_slab.proofs.Views.{same_running}
 use Rattle.disk_slab.proofs.Granted.{front_granted}
@@ -32,19 +33,17 @@ returns-in_err-add_extent g c =
       leaves = same_running refl full.kept full.adds.2 refl;
     })
 
-pub unreachable-requires : goal.unreachable-requires
-unreachable-requires g c =
+pub unwrap-requires : goal.unwrap-requires
+unwrap-requires g c =
     let fit : Fits (free_in c.args.space.now) c.args.want (Some c.in_ok-fit.fit) = search rules in
     let fine = front_granted c.args.space.now c.args.want c.in_ok-fit.fit.start c.in_ok-fit.fit.length (omega arith) fit in
-    let fault = c.in_default.ensures.0 in
-    let z : ◌≡◌ {A = ℕ} 0 1 = cc in
-    omega arith
+    no_fault _ _ _ _ c.grant.result fine c.grant.ensures
 
 pub returns : goal.returns
 returns g c =
     let fit : Fits (free_in c.args.space.now) c.args.want (Some c.in_ok-fit.fit) = search rules in
     let fine = front_granted c.args.space.now c.args.want c.in_ok-fit.fit.start c.in_ok-fit.fit.length (omega arith) fit in
-    let done = c.in-Ok.ensures in
+    let done = rw (c.unwrap.ensures) at c.grant.ensures in
     let logged = c.in_ok-add_extent.ensures in
     let n = words_length Allocating c.in_ok-fit.fit.start c.args.want (omega arith) in
     record {

@@ -3,7 +3,7 @@ use Rattle.std.proofs.Common.{◌≡◌, ◌++◌, length, sym, refl, ap, ◌∙
 use Rattle.std.proofs.lemmas.Result.{err_from_is_err_and}
 use Rattle.slab_log.specs.Words.{words_of, left}
 use Rattle.slab_log.proofs.Written.{words_length}
-use Rattle.store.proofs.Appended.{next_fits, one_appended, all_appended}
+use Rattle.store.proofs.Appended.{next_added, one_appended, all_appended}
 use Rattle.store.proofs.extents.add_extent.Goals as goal
 
 pub returns-in_err-room_for-clause-adds : goal.returns-in_err-room_for-clause-adds
@@ -26,13 +26,10 @@ loop-word-init g c =
     }
 
 pub loop-word-preserved : goal.loop-word-preserved
-loop-word-preserved g c = one_appended _ _ _ _ _ c.in-Some.word _ _ c.in-Some.ensures.steps c.loop-word.invariant _ _ c.in-Ok.ensures.kept c.in-Ok.ensures.adds.1
+loop-word-preserved g c = one_appended _ _ _ _ _ c.in-Some.word _ _ c.in-Some.ensures.steps c.loop-word.invariant _ _ c.add.ensures.kept (rw (c.unwrap.ensures) at c.add.ensures.adds).1
 
-pub unreachable-requires : goal.unreachable-requires
-unreachable-requires g c =
-    let room = next_fits _ _ _ _ _ c.in-Some.word _ _ c.in-Some.ensures.steps c.loop-word.invariant in
-    let full = c.in_default.ensures.adds.0 in
-    omega arith
+pub unwrap-requires : goal.unwrap-requires
+unwrap-requires g c = next_added _ _ _ _ _ c.in-Some.word _ _ c.in-Some.ensures.steps c.loop-word.invariant _ c.add.result c.add.ensures.adds
 
 pub returns : goal.returns
 returns g c =

@@ -3,6 +3,7 @@ use Rattle.std.proofs.Common.{◌≡◌, [], ◌++◌, Some, None, sym, refl, ap
 use Rattle.std.proofs.lemmas.Result.{err_from_is_err_and}
 use Rattle.slab_log.specs.Sectors.{used}
 use Rattle.slab_log.proofs.Unique.{condensed_exists}
+use Rattle.store.proofs.Appended.{all_added}
 use Rattle.space.specs.Free.{sectors_of, free_in, Follows}
 use Rattle.space.proofs.Walked.{walk_starts, walk_ends, write_fits, write_on}
 use Rattle.space.proofs.space.Space.write_condensed.Goals as goal
@@ -37,14 +38,13 @@ loop-extent-init g c =
       };
     }
 
-pub unreachable-requires : goal.unreachable-requires
-unreachable-requires g c =
+pub unwrap-requires : goal.unwrap-requires
+unwrap-requires g c =
     let now = c.args.self.now in
     let inv = c.loop-extent.invariant in
     let f : Follows (used (sectors_of now) (free_in now)) c.loop-extent.extent-iterator.at (Some c.in-Some.extent) = rw (← inv.same) c.in-Some.ensures.steps.follows in
     let room = write_fits _ _ _ _ _ _ _ _ inv.writing c.in-Some.extent f in
-    let full = c.in_default.ensures.adds.0 in
-    omega arith
+    all_added _ _ _ _ c.add_extent.result room c.add_extent.ensures.adds
 
 pub loop-extent-preserved : goal.loop-extent-preserved
 loop-extent-preserved g c =
@@ -52,10 +52,10 @@ loop-extent-preserved g c =
     let inv = c.loop-extent.invariant in
     let step = c.in-Some.ensures.steps in
     let f : Follows (used (sectors_of now) (free_in now)) c.loop-extent.extent-iterator.at (Some c.in-Some.extent) = rw (← inv.same) step.follows in
-    let added = c.in-Ok.ensures in
+    let added = rw (c.unwrap.ensures) at c.add_extent.ensures.adds in
     record {
       same = step.same ∙ inv.same;
-      writing = rw step.goes (write_on _ _ _ _ _ _ _ _ inv.writing c.in-Some.extent f _ _ added.kept added.adds.1);
+      writing = rw step.goes (write_on _ _ _ _ _ _ _ _ inv.writing c.in-Some.extent f _ _ c.add_extent.ensures.kept added.1);
     }
 
 pub returns : goal.returns
