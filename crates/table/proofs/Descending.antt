@@ -1,15 +1,15 @@
 -- The way down.
-use Rattle.std.proofs.Common.{◌≡◌, ℕ, ◌+◌, ◌-◌, ◌<◌, ◌≤◌, Bool, true, ◌≢◌, List, [], ◌∷◌, ◌++◌, length, Some, sym, refl, ap, ◌∙◌, subst, append-nil, length-append, arith}
+use Rattle.std.proofs.Common.{◌≡◌, ℕ, ◌+◌, ◌-◌, ◌<◌, ◌≤◌, max, Bool, true, ◌≢◌, List, [], ◌∷◌, ◌++◌, length, Some, sym, refl, ap, ◌∙◌, subst, append-nil, length-append, arith}
 use Rattle.std.specs.List.{slice_get}
 use Rattle.table.specs.declared.node.Node.{Node}
 use Rattle.table.specs.declared.tree.path.Step.{Step}
-use Rattle.table.specs.Side.{Side, Left, Right, across, link_on}
+use Rattle.table.specs.Side.{Side, Left, Right, across, links_of, link_on}
 use Rattle.table.specs.Tree.{Item, Tree, none, tall, inorder, Avl, Stands}
-use Rattle.table.specs.Edit.{item}
-use Rattle.table.specs.Path.{Frame, on, front, back, top, Lvl}
+use Rattle.table.specs.Edit.{item, cell_of}
+use Rattle.table.specs.Path.{Frame, on, front, back, top, Lvl, Along}
 use Rattle.table.specs.Pairs.{Each}
 use Rattle.table.specs.Search.{Sorted, Whole, Way, Walk, Descent}
-use Rattle.table.proofs.Model.{opened}
+use Rattle.table.proofs.Model.{opened, tall_read}
 use Rattle.table.proofs.Turn.{node_on, tall_on, avl_off}
 use Rattle.table.proofs.Climbing.{frame_row}
 
@@ -46,6 +46,11 @@ module _ {K V : Type 0} (before : K → K → Bool) where
       record { left = (each_left P a (x ∷ b) h.0, k.left); right = k.right; below = ((each_right P a (x ∷ b) h.0).0, k.below); above = k.above }
 
 module _ {K V : Type 0} where
+  -- the record of a node, by its sides
+  by_sides : (s : Side) (at far high : ℕ) (n : Node K V) → link_on (across s) n.links ≡ far → n.height ≡ high → n ≡ cell_of (item at n.key n.value) (links_of s (link_on s n.links) far) high
+  by_sides Left at far high n e f = λ i. record { key = n.key; value = n.value; links = record { left = n.links.left; right = e i }; height = f i }
+  by_sides Right at far high n e f = λ i. record { key = n.key; value = n.value; links = record { left = e i; right = n.links.right }; height = f i }
+
   -- one step more, to the near side of a node
   module _ (xs : List (Node K V)) (path : List Step) (link : ℕ) (t : Tree K V) (n : Node K V) (read : slice_get xs link ≡ Some n) (linkable : link < none) (fs : List (Frame K V)) (s : Side) (near far : Tree K V) (on_near : Stands xs (link_on s n.links) near) (on_far : Stands xs (link_on (across s) n.links) far) (w : Way xs path link t fs (node_on s (item link n.key n.value) near far)) where
     pub way_on : Way xs (path ++ record { at = link; side = s } ∷ []) (link_on s n.links) t (on s (item link n.key n.value) far ∷ fs) near
@@ -54,9 +59,10 @@ module _ {K V : Type 0} where
         let step : Step = record { at = link; side = s } in
         let high = tall_on s x near far in
         let avl = avl_off s x near far w.avl in
+        let tall-is : n.height ≡ max (tall near) (tall far) + 1 = tall_read xs link n (node_on s x near far) w.stands (λ e. omega arith) read ∙ high in
         record {
           stands = on_near;
-          along = (linkable, (n, read, refl, on_far.root), on_far.held, w.along);
+          along = (linkable, read ∙ ap Some (by_sides s link _ _ n on_far.root tall-is), on_far.held, subst (λ (h : ℕ). Along xs link h fs) high w.along);
           noted = ap (λ (q : List Step). q ++ step ∷ []) w.noted;
           order = sym (frame_row s x near far fs) ∙ w.order;
           avl = avl.1;

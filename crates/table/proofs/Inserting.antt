@@ -37,7 +37,8 @@ module _ {K V : Type 0} where
         let off : (j : ℕ) → 1 ≤ uses j (front fs) + uses j (back fs) → j ≢ x.at = λ j u e. let same : uses j (inorder t) ≡ uses x.at (inorder t) = ap (λ (k : ℕ). uses k (inorder t)) e in omega (arith, all j, free.unused) in
         record {
           stands = j1.stands;
-          along = along_frame xs ys fs (λ j u. j1.kept.same j (off j u)) w.way.along;
+          old = none;
+          along = along_frame xs ys none 0 fs (λ j u. j1.kept.same j (off j u)) w.way.along;
           noted = w.way.noted;
           once = λ j. ⊎_elim
               (λ e. let same : uses j (inorder t) ≡ uses x.at (inorder t) = ap (λ (k : ℕ). uses k (inorder t)) e in omega (arith, ap (λ (k : ℕ). one k x.at) e, one_at x.at, uses_node j x (front fs) (back fs), all j, free.unused))

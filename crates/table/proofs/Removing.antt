@@ -53,6 +53,7 @@ module _ {K V : Type 0} where
           rest = r;
           climb = record {
             stands = on_right;
+            old = link;
             along = w.along;
             noted = w.noted;
             once = λ j. omega (arith, stem.once j, all j, parts j);
@@ -206,7 +207,8 @@ module _ {K V : Type 0} where
           let left-uses : (j : ℕ) → uses j (inorder f.tree) ≡ uses j f.a + uses j f.b = λ j. ap (uses j) f.order ∙ uses_append j f.a f.b in
           record {
             stands = f.stands;
-            along = along_frame xs ys d.fs (λ j u. f.same j (omega (arith, whole.once j, all j, cut-uses j, uses_append j f.a f.b))) d.walk.way.along;
+            old = link;
+            along = along_frame xs ys link (tall d.sub) d.fs (λ j u. f.same j (omega (arith, whole.once j, all j, cut-uses j, uses_append j f.a f.b))) d.walk.way.along;
             noted = d.walk.way.noted;
             once = λ j. omega (arith, whole.once j, all j, cut-uses j, left-uses j, uses_append j (front d.fs) (inorder f.tree ++ back d.fs), uses_append j (inorder f.tree) (back d.fs));
             avl = f.avl;

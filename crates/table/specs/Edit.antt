@@ -1,12 +1,16 @@
 -- What the edits of a tree ask and give.
-use Rattle.std.specs.Prelude.{◌≡◌, ℕ, ◌+◌, ◌<◌, ◌≤◌, max, ◌≢◌, List, ◌∷◌, ◌++◌, length}
+use Rattle.std.specs.Prelude.{◌≡◌, ℕ, ◌+◌, ◌<◌, ◌≤◌, max, ◌≢◌, List, ◌∷◌, ◌++◌, length, Some, None, Option}
 use Rattle.std.specs.List.{slice_get}
 use Rattle.table.specs.declared.node.Node.{Node}
-use Rattle.table.specs.Side.{Side, Left, Right, Links}
+use Rattle.table.specs.Side.{Side, Left, Right, Links, across, links_of, link_on}
 use Rattle.table.specs.Tree.{Item, Tree, node, none, tall, inorder, uses, Near, Avl, Stands}
 
 abbrev pub item : {K V : Type 0} → ℕ → K → V → Item K V
 item at key value = record { at = at; key = key; value = value }
+
+-- the record of a node by its links and its height
+abbrev pub cell_of : {K V : Type 0} → Item K V → Links → ℕ → Node K V
+cell_of x links high = record { key = x.key; value = x.value; links = links; height = high }
 
 -- no place is used twice
 abbrev pub Once : {K V : Type 0} → List (Item K V) → Type 0
@@ -62,3 +66,15 @@ pub record Uneven {K V : Type 0} (l r : Tree K V) : Type 0 where
 pub record Balanced {K V : Type 0} (xs ys : List (Node K V)) (link : ℕ) (x : Item K V) (l r : Tree K V) : Type 0 where
   pub mended : Mended xs ys link (inorder l ++ x ∷ inorder r) (max (tall l) (tall r))
   pub level : Near (tall l) (tall r) → tall mended.tree ≡ max (tall l) (tall r) + 1
+
+-- a tree at a link can be put on a side of the node n, which stands at a place: l and r are then its two sides
+pub record Refit {K V : Type 0} (xs : List (Node K V)) (at : ℕ) (side : Side) (link : ℕ) (n : Node K V) (l r : Tree K V) : Type 0 where
+  pub held : slice_get xs at ≡ Some n
+  pub room : Room xs (item at n.key n.value) (links_of side link (link_on (across side) n.links)) l r
+  pub uneven : Uneven l r
+
+-- It was put there, and the answer is the link of the whole. Nothing is answered where the node still stands at its place, as tall
+-- as its record said.
+abbrev pub Refitted : {K V : Type 0} → List (Node K V) → List (Node K V) → ℕ → Node K V → Tree K V → Tree K V → Option ℕ → Type 0
+Refitted xs ys at n l r (Some link) = Balanced xs ys link (item at n.key n.value) l r
+Refitted xs ys at n l r None = (b : Balanced xs ys at (item at n.key n.value) l r) × (tall b.mended.tree ≡ n.height)

@@ -4,8 +4,8 @@ use Rattle.std.specs.List.{slice_get}
 use Rattle.table.specs.declared.node.Node.{Node}
 use Rattle.table.specs.declared.tree.path.Step.{Step}
 use Rattle.table.specs.Tree.{Item, Tree, none, ptr, tall, inorder, uses, Rep, Near, Avl, Stands}
-use Rattle.table.specs.Side.{Side, Left, Right, across, link_on}
-use Rattle.table.specs.Edit.{item, Once}
+use Rattle.table.specs.Side.{Side, Left, Right, links_of}
+use Rattle.table.specs.Edit.{Once, cell_of}
 
 -- A node that the way leaves, to a side, with its other side. The deepest comes first.
 pub data Frame (K V : Type 0) : Type 0 where
@@ -32,21 +32,26 @@ abbrev pub Lvl : {K V : Type 0} → List (Frame K V) → ℕ → Type 0
 Lvl [] h = Unit {0}
 Lvl (on s x o ∷ fs) h = Near h (tall o) × Avl o × Lvl fs (max h (tall o) + 1)
 
--- The slice holds the nodes of the way with their other sides. What the records say of the side of the way, and of heights,
--- is left open.
-abbrev pub Along : {K V : Type 0} → List (Node K V) → List (Frame K V) → Type 0
-Along xs [] = Unit {0}
-Along {K} {V} xs (on s x o ∷ fs) = (x.at < none) × ((n : Node K V) × (slice_get xs x.at ≡ Some n) × (item x.at n.key n.value ≡ x) × (link_on (across s) n.links ≡ ptr o)) × Rep xs o × Along xs fs
+-- The slice holds the nodes of the way with their other sides. Their records fit a tree of height h at a link at the end of the way.
+abbrev pub Along : {K V : Type 0} → List (Node K V) → ℕ → ℕ → List (Frame K V) → Type 0
+Along xs link h [] = Unit {0}
+Along xs link h (on s x o ∷ fs) = (x.at < none) × (slice_get xs x.at ≡ Some (cell_of x (links_of s link (ptr o)) (max h (tall o) + 1))) × Rep xs o × Along xs x.at (max h (tall o) + 1) fs
+
+-- where the whole tree stands, with one at a link at the end of the way
+abbrev pub root_of : {K V : Type 0} → ℕ → List (Frame K V) → ℕ
+root_of link [] = link
+root_of link (on s x o ∷ fs) = root_of x.at fs
 
 -- the steps of the way, from the root down
 abbrev pub steps : {K V : Type 0} → List (Frame K V) → List Step
 steps [] = []
 steps (on s x o ∷ fs) = steps fs ++ record { at = x.at; side = s } ∷ []
 
--- a tree t stands at the end of a way that fitted one of height h
+-- a tree t stands at the end of a way that fitted one of height h at the link old
 pub record Climb {K V : Type 0} (xs : List (Node K V)) (path : List Step) (link : ℕ) (fs : List (Frame K V)) (t : Tree K V) (h : ℕ) : Type 0 where
   pub stands : Stands xs link t
-  pub along : Along xs fs
+  pub old : ℕ
+  pub along : Along xs old h fs
   pub noted : path ≡ steps fs
   pub once : Once (front fs ++ (inorder t ++ back fs))
   pub avl : Avl t
@@ -63,12 +68,13 @@ pub record Climbed {K V : Type 0} (xs ys : List (Node K V)) (link : ℕ) (items 
   pub long : length ys ≡ length xs
   pub same : (j : ℕ) → uses j items ≡ 0 → slice_get ys j ≡ slice_get xs j
 
--- how far the climb has come: the items and the height are those it began with
-pub record Progress {K V : Type 0} (xs ys : List (Node K V)) (path : List Step) (link : ℕ) (items : List (Item K V)) (high : ℕ) : Type 0 where
+-- how far the climb has come: the root, the items and the height are those it began with
+pub record Progress {K V : Type 0} (xs ys : List (Node K V)) (path : List Step) (link root : ℕ) (items : List (Item K V)) (high : ℕ) : Type 0 where
   pub fs : List (Frame K V)
   pub tree : Tree K V
   pub h : ℕ
   pub climb : Climb ys path link fs tree h
+  pub root_is : root ≡ root_of root fs
   pub order : front fs ++ (inorder tree ++ back fs) ≡ items
   pub high_is : top fs h ≡ high
   pub long : length ys ≡ length xs

@@ -37,7 +37,7 @@ pub record Became {K V : Type 0} (before : K → K → Bool) (xs ys : List (Node
 -- a way down the tree t has come to the tree sub at a link
 pub record Way {K V : Type 0} (xs : List (Node K V)) (path : List Step) (link : ℕ) (t : Tree K V) (fs : List (Frame K V)) (sub : Tree K V) : Type 0 where
   pub stands : Stands xs link sub
-  pub along : Along xs fs
+  pub along : Along xs link (tall sub) fs
   pub noted : path ≡ steps fs
   pub order : front fs ++ (inorder sub ++ back fs) ≡ inorder t
   pub avl : Avl sub

@@ -53,6 +53,16 @@ impl Links {
         }
     }
 
+    // Puts another link on a side.
+    pub(crate) fn put(&mut self, side: Side, link: u16)
+        ensures { self.new ≡ links_of side link (link_on (across side) self.old) }
+    {
+        match side {
+            Side::Left => self.left = link,
+            Side::Right => self.right = link,
+        }
+    }
+
     // The link on a side.
     pub(crate) fn on(self, side: Side) -> u16
         ensures { result ≡ link_on side self }

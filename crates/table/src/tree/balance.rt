@@ -1,9 +1,9 @@
 // Nodes over two trees: joined as they are, or turned where one is two taller.
-ghost use Rattle.std.specs.Prelude.{◌≡◌, ◌+◌, ◌<◌, ◌∷◌, ◌++◌, length, Some};
+ghost use Rattle.std.specs.Prelude.{◌≡◌, ◌+◌, ◌<◌, ◌∷◌, ◌++◌, length, Some, slice_set};
 ghost use Rattle.std.specs.List.{slice_get};
 ghost use Rattle.table.specs.Tree.{Tree, Stands, tall, inorder};
-ghost use Rattle.table.specs.Side.{across};
-ghost use Rattle.table.specs.Edit.{Room, Joined, Mended, Heavy, Uneven, Balanced, tree_on};
+ghost use Rattle.table.specs.Side.{across, links_of, link_on};
+ghost use Rattle.table.specs.Edit.{item, cell_of, Room, Joined, Mended, Heavy, Uneven, Balanced, Refit, Refitted, tree_on};
 
 use crate::node::{Item, NONE, Node};
 use crate::side::{Links, Side};
@@ -96,4 +96,39 @@ pub(crate) fn balance<K: Copy, V: Copy>(
     } else {
         join(nodes, item, links)
     }
+}
+
+// Puts another link on a side of the node at a place, and writes its height.
+fn relink<K: Copy, V: Copy>(nodes: &mut [Node<K, V>], at: u16, side: Side, link: u16, height: u8)
+    requires { at < length nodes.old }
+    ensures { (n : Node K V) → slice_get nodes.old at ≡ Some n → nodes.new ≡ slice_set nodes.old at (cell_of (item at n.key n.value) (links_of side link (link_on (across side) n.links)) height) }
+{
+    let n = &mut nodes[at as usize];
+    n.links.put(side, link);
+    n.height = height;
+}
+
+// Puts a tree on a side of the node at a place, in place of what is there, and turns the node where one side is two taller. Answers
+// the link of the whole; nothing where the node still stands at its place, as tall as its record said.
+pub(crate) fn refit<K: Copy, V: Copy>(
+    nodes: &mut [Node<K, V>],
+    at: u16,
+    side: Side,
+    near: u16,
+) -> Option<u16>
+    requires { (n : Node K V) × (l : Tree K V) × (r : Tree K V) × Refit nodes.old at side near n l r }
+    ensures { (n : Node K V) (l r : Tree K V) → Refit nodes.old at side near n l r → Refitted nodes.old nodes.new at n l r result }
+{
+    let n = read(nodes, at);
+    let far = n.links.on(side.other());
+    let on_near = height(nodes, near);
+    let on_far = height(nodes, far);
+    if on_near.abs_diff(on_far) > 1 {
+        let item = n.item(at);
+        return Some(balance(nodes, item, Links::of(side, near, far)));
+    }
+    let height = on_near.max(on_far) + 1;
+    let kept = height == n.height;
+    relink(nodes, at, side, near, height);
+    if kept { None } else { Some(at) }
 }

@@ -7,10 +7,10 @@ ghost use Rattle.table.specs.Path.{Frame, Climb, Climbed, front, back, top};
 ghost use Rattle.table.specs.Search.{Whole, Descent, Under, Over, Keyed};
 ghost use Rattle.table.specs.Remove.{Stem, Leftward, LeftEnd};
 
-use super::balance::{balance, read};
+use super::balance::{read, refit};
 use crate::key::Key;
 use crate::node::{NONE, Node};
-use crate::side::{Links, Side};
+use crate::side::Side;
 use arrayvec::ArrayVec;
 
 // One step of a way down: the node that it leaves, and to which side.
@@ -33,18 +33,19 @@ pub(crate) struct Place {
     pub(crate) link: u16,
 }
 
-// Goes back up a way, and balances each node of it over the tree that is new below.
+// Goes back up a way, and balances each node of it over the tree that is new below, until nothing changes above.
 pub(crate) fn climb<K: Copy, V: Copy>(nodes: &mut [Node<K, V>], path: Path, link: u16) -> u16
     requires { (fs : List (Frame K V)) × (t : Tree K V) × (h : ℕ) × Climb nodes.old path.items link fs t h }
     ensures { (fs : List (Frame K V)) (t : Tree K V) (h : ℕ) → Climb nodes.old path.items link fs t h → Climbed nodes.old nodes.new result (front fs ++ (inorder t ++ back fs)) (top fs h) }
 {
+    let root = path.first().map_or(link, |first| first.at);
     let mut path = path;
     let mut sub = link;
     while let Some(step) = path.pop() {
-        let n = read(nodes, step.at);
-        let other = n.links.on(step.side.other());
-        let item = n.item(step.at);
-        sub = balance(nodes, item, Links::of(step.side, sub, other));
+        let Some(link) = refit(nodes, step.at, step.side, sub) else {
+            return root;
+        };
+        sub = link;
     }
     sub
 }
