@@ -1,12 +1,14 @@
 -- Views with equal parts are equal; what is shown of a running slab holds of a slab that no fault has stopped.
 use Rattle.std.proofs.Common.{◌≡◌, ℕ, List, Some, None, Ok, Err, Option, Result, sym, refl}
 use Rattle.std.proofs.Common.{Bor}
-use Rattle.std.specs.Prelude.{MatchOption}
+use Rattle.std.specs.Prelude.{MatchOption, MatchResult}
 use Rattle.std.specs.Result.{result_ok, result_copied}
 use Rattle.slab_log.specs.Sectors.{Sectors}
 use Rattle.slab_log.specs.declared.size.Size.{Size}
 use Rattle.slab_log.specs.declared.extent.Extent.{Extent}
 use Rattle.slab_log.specs.declared.fault.Stop.{Stop}
+use Rattle.slab_log.specs.declared.refusal.Refusal.{Refusal}
+use Rattle.slab_log.specs.declared.refusal.Refusal.TheVariants.{Stopped}
 use Rattle.store.specs.declared.log_store.LogStore.{Ghosts}
 use Rattle.space.specs.Free.{free_in, Follows as Follows-in}
 use Rattle.space.specs.declared.space.Space.{Space}
@@ -32,6 +34,13 @@ module _ {S : Type 0} (G : Ghosts S) (size : Size) (loaded : Result Space Stop) 
 pub followed : (v : View) → Running v → (sector : ℕ) (r : Option Extent) → Follows-in v.free sector r → Follows v sector r
 followed v on sector None none = nothing on none
 followed v on sector (Some e) (run, from, lowest-one) = lowest on run from lowest-one
+
+-- a slab's space or fault, as it is lent and asked for by `?`
+pub lent_is : (loaded : Result Space Stop) (lent : Result (Bor Space) (Bor Stop)) → result_copied lent ≡ loaded → (asked : Result (Bor Space) Refusal) →
+    MatchResult lent (λ x. asked ≡ Ok x) (λ e. asked ≡ Err (Stopped e.now)) →
+    MatchResult asked (λ x. loaded ≡ Ok x.now) (λ r. (stop : Stop) × (loaded ≡ Err stop) × (r ≡ Stopped stop))
+lent_is loaded (Ok x) is asked got = rw got (sym is)
+lent_is loaded (Err e) is asked got = rw got (e.now, sym is, refl)
 
 -- so the space that is lent, where there is one, says what follows in a slab
 pub followed_lent : {S : Type 0} (G : Ghosts S) (size : Size) (loaded : Result Space Stop) (store : S) → Sized size loaded →

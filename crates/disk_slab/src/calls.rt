@@ -41,10 +41,7 @@ impl<S: LogStore> Live<S> {
         ensures leaves { view S.LogStore self.new ≡ with_words (view S.LogStore self.old) (S.LogStore.words self.new.store) }
         ensures room { NeverFull result }
     {
-        let space = self
-            .space
-            .as_ref()
-            .map_err(|stop| Refusal::Stopped(*stop))?;
+        let space = self.space.as_ref().map_err(|stop| Refusal::Stopped(*stop))?;
         condense(space, &mut self.store)
     }
 

@@ -1,4 +1,5 @@
-// The lines that tell of an image: its header's figures, its words, and what its log holds.
+// The lines that tell of an image: its header's figures, its words, and what its log holds. Header and audit have no `Display`: each has one
+// listing of several lines, here.
 use crate::failure::Failure;
 use crate::word_text::WordText;
 use disk_slab::Audit;

@@ -24,7 +24,7 @@ abbrev pub AddsReply : {T E : Type 0} → Reply → Result T E → List ℕ → 
 AddsReply reply (Ok _) before after = after ≡ before ++ line_of reply
 AddsReply reply (Err _) before after = after ≡ before
 
--- what a call that adds bytes answers, and the bytes before and after it: all of them, or where memory is lacking a part
+-- what a call that adds a text answers, and the bytes before and after it: where memory is lacking, any bytes behind those before
 abbrev pub Puts : {T E : Type 0} → List ℕ → Result T E → List ℕ → List ℕ → Type 0
 Puts text (Ok _) before after = after ≡ before ++ text
 Puts text (Err _) before after = (part : List ℕ) × (after ≡ before ++ part)

@@ -110,7 +110,7 @@ fn store_of<S: LogStore>(stage: Option<Stage<S>>) -> S
     }
 }
 
-// Puts a stage in where none stands.
+// Puts a stage in where none stands. By `replace`, as a stage is linear and cannot be overwritten.
 fn put<S: LogStore>(stage: &mut Option<Stage<S>>, next: Stage<S>)
     requires { stage.old ≡ None }
     ensures { stage.new ≡ Some next }

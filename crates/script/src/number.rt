@@ -8,7 +8,8 @@ use slab_log::Refusal;
 // The most digits of a number.
 const MOST_DIGITS: usize = 10;
 
-// A number of a line, and the place just behind its digits.
+// A number of a line, and the place just behind its digits. Readers of a line take it whole with a place, and no rest of it, since what a
+// line asks for is said by places.
 #[derive(Clone, Copy, PartialEq, Eq, Debug)]
 pub struct Number {
     pub value: u64,
@@ -25,7 +26,8 @@ fn count_digits(line: &[u8], from: usize) -> usize
         .count()
 }
 
-// What these digits write in base ten. A fold is no plainer: its closure would have to show of any sum that the next fits.
+// What these digits write in base ten. The library's `parse` takes a text and a sign, and its text would have to be cut out and tested
+// first. A fold is no plainer than the loop: its closure would have to show of any sum that the next fits.
 fn value_of(digits: &[u8]) -> u64
     requires few { length digits.now ≤ 10 }
     requires digits { front_digits digits.now ≡ digits.now }

@@ -1,5 +1,5 @@
-// Writing replies. No Display for them: one that is written to an ArrayString first was proved, but the script of bench/run took 1.5 %
-// longer and one of grants alone 7 %, and no clause says that a line finds room there.
+// Writing replies. No `Display` for them: it was tried and proved, but is no plainer, since its text goes into an ArrayString first, where
+// no clause says that it finds room, and from there into the bytes (which took the script of bench/run 1.5 % longer).
 ghost use Rattle.std.specs.Prelude.{◌≡◌, ◌++◌};
 ghost use Rattle.script.specs.Replies.{text_of, line_of, AddsReply, Puts};
 

@@ -1,4 +1,5 @@
-// Sizes and extents from plain numbers. No `TryFrom`: an extent is made of two numbers, which a pair would leave without names.
+// Sizes and extents from plain numbers. No `TryFrom`: an extent is made of two numbers, which a pair would leave without names, and a
+// size is made as an extent is; nothing converts a number to either without knowing which it is.
 ghost use Rattle.slab_log.specs.Make.{MakesSize, MakesExtent};
 
 use crate::extent::Extent;

@@ -77,13 +77,14 @@ abbrev pub Surrounds : Starts → ℕ → ℕ → Option Edges → Type 0
 Surrounds es start len (Some edges) = Apart es start len edges
 Surrounds es start len None = meets (free_of es) start len ≡ true
 
--- where the first longest run of the set that begins at or after a sector begins; the size, where it would begin behind the slab
+-- where the first longest run of a set of sectors begins that begins at or after a sector, or a place at or past the size, up to which
+-- none begins
 pub record UsedFrom (set : Sectors) (size sector start : ℕ) : Type 0 where
   pub from : sector ≤ start
   pub quiet : (s : ℕ) → sector ≤ s → s < start → begins set s ≡ false
   pub here : start < size → begins set start ≡ true
 
--- the same, or nothing where no run of the set begins there
+-- the same, or nothing where no run of the set begins at or after the sector
 abbrev pub FreeTo : Sectors → ℕ → ℕ → Option ℕ → Type 0
 FreeTo set size sector (Some end) = UsedFrom set size sector end
 FreeTo set size sector None = (s : ℕ) → sector ≤ s → begins set s ≡ false

@@ -50,7 +50,7 @@ impl Space {
         ensures { Holds self.now run.start run.len result }
     {
         self.sides(run.start + 1)
-            .before
+            .below
             .filter(|holder| run.end() <= holder.end())
     }
 

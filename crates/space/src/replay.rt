@@ -30,7 +30,8 @@ impl Space {
         }
     }
 
-    // What one entry of a log does.
+    // What one entry of a log does. Each arm names its run in place: through one `From<Span>` two edits that turn an arm would be refused for
+    // what the conversion says alone.
     pub fn apply(&mut self, entry: Entry) -> Result<(), Fault>
         ensures { Changes self.old (apply (sectors_of self.old) (free_in self.old) entry) self.new result }
     {

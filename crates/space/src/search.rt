@@ -6,16 +6,10 @@ ghost use Rattle.space.specs.Tables.{RunOf, LastBefore, FirstFrom, Surrounds};
 
 use crate::run::SectorRun;
 use crate::space::Space;
-use table::Entry;
+use table::{Beside, Entry};
 
-// Of the free extents that begin before a sector the last, and of those that do not the first.
-#[derive(Clone, Copy)]
-pub(crate) struct Sides {
-    pub(crate) before: Option<SectorRun>,
-    pub(crate) from: Option<SectorRun>,
-}
-
-// The edges of the free extents beside a run of used sectors.
+// The bounds of the free extent that a run of used sectors would become part of. There always are such bounds, so that they are numbers and
+// no options: with no free extent beside the run they are its own.
 #[derive(Clone, Copy)]
 pub(crate) struct Edges {
     // Where the free extent begins that ends at the run; the run's start, if there is none.
@@ -25,14 +19,14 @@ pub(crate) struct Edges {
 }
 
 impl Space {
-    // The free extents on the two sides of a sector, by one search.
-    pub(crate) fn sides(&self, sector: u64) -> Sides
-        ensures before { LastBefore (starts self.now.by_start) sector result.before }
+    // The last free extent that begins before a sector, and the first that does not, by one search.
+    pub(crate) fn sides(&self, sector: u64) -> Beside<Option<SectorRun>>
+        ensures below { LastBefore (starts self.now.by_start) sector result.below }
         ensures from { FirstFrom (starts self.now.by_start) sector result.from }
     {
         let found = self.by_start.beside(sector);
-        Sides {
-            before: self.run_of(found.below),
+        Beside {
+            below: self.run_of(found.below),
             from: self.run_of(found.from),
         }
     }
@@ -53,16 +47,16 @@ impl Space {
     pub(crate) fn edges(&self, run: SectorRun) -> Option<Edges>
         ensures { Surrounds (starts self.now.by_start) run.start run.len result }
     {
-        let Sides { before, from } = self.sides(run.start);
+        let Beside { below, from } = self.sides(run.start);
         let start = run.start;
         let end = run.end();
-        let met = before.is_some_and(|free| start < free.end())
+        let met = below.is_some_and(|free| start < free.end())
             | from.is_some_and(|free| free.start < end);
         if met {
             return None;
         }
         Some(Edges {
-            first: before
+            first: below
                 .filter(|free| free.end() == start)
                 .map_or(start, |free| free.start),
             last: from

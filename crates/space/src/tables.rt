@@ -37,8 +37,8 @@ impl Space {
         self.free += len;
     }
 
-    // Puts an extent in, unless it is empty, which no run of sectors is. This and `take_end` owe opposite facts: one function
-    // over a closure would need both.
+    // Puts an extent in, unless it is empty. As an option of a run it would be said in two cases, where the sectors of an empty one are said
+    // as those of any. This and `take_end` owe opposite facts: one function over a closure would need both.
     pub(crate) fn put_end(&mut self, start: u64, len: u64)
         requires within { start + len ≤ sectors_of self.old }
         requires clear { 1 ≤ len → Clear (free_in self.old) start len }

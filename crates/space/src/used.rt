@@ -4,9 +4,9 @@ ghost use Rattle.slab_log.specs.Sectors.{used};
 ghost use Rattle.space.specs.Free.{sectors_of, free_in, Follows};
 ghost use Rattle.space.specs.Tables.{FreeTo, UsedTo};
 
-use crate::search::Sides;
 use crate::space::Space;
 use slab_log::Extent;
+use table::Beside;
 
 impl Space {
     // The lowest longest run of used sectors that begins at or after a sector.
@@ -19,16 +19,17 @@ impl Space {
         Some(Extent { start, length })
     }
 
-    // Where the free sectors end behind which it begins: the sector itself, where it is the first of the slab and not free.
+    // Where free sectors end, behind which that run begins; the first sector of the slab where the run begins with it. Nothing where no free
+    // extent lies before or behind, so that no run begins there. Where it is the size, the slab ends there.
     fn free_end(&self, sector: u64) -> Option<u64>
         ensures { FreeTo (used (sectors_of self.now) (free_in self.now)) (sectors_of self.now) sector result }
     {
-        let Sides { before, from } = self.sides(sector);
+        let Beside { below, from } = self.sides(sector);
         if sector == 0 {
             let first = from.filter(|free| free.start == 0);
             return Some(first.map_or(0, |free| free.end()));
         }
-        before
+        below
             .filter(|free| sector <= free.end())
             .or(from)
             .map(|free| free.end())

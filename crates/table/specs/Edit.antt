@@ -16,7 +16,8 @@ cell_of x links high = record { key = x.key; value = x.value; links = links; hei
 abbrev pub Once : {K V : Type 0} → List (Item K V) → Type 0
 Once items = (j : ℕ) → uses j items ≤ 1
 
--- x can be put over the trees l and r, at two links
+-- x can be put over the trees l and r, at two links. That they are no taller than 100 is more than any tree here is, and enough for a
+-- height of eight bits.
 pub record Room {K V : Type 0} (xs : List (Node K V)) (x : Item K V) (links : Links) (l r : Tree K V) : Type 0 where
   pub on_left : Stands xs links.left l
   pub on_right : Stands xs links.right r
@@ -31,11 +32,12 @@ pub record Changed {K V : Type 0} (xs ys : List (Node K V)) (at : ℕ) : Type 0 
   pub long : length ys ≡ length xs
   pub same : (j : ℕ) → j ≢ at → slice_get ys j ≡ slice_get xs j
 
+-- x stands over the trees l and r, and no record of another place has changed
 pub record Joined {K V : Type 0} (xs ys : List (Node K V)) (link : ℕ) (x : Item K V) (l r : Tree K V) : Type 0 where
   pub stands : Stands ys link (node x l r)
   pub kept : Changed xs ys x.at
 
--- the slice now holds some tree with these items, and no record of another place has changed
+-- the slice now holds some balanced tree with these items, as tall as high or one more, and no record of another place has changed
 pub record Mended {K V : Type 0} (xs ys : List (Node K V)) (link : ℕ) (items : List (Item K V)) (high : ℕ) : Type 0 where
   pub tree : Tree K V
   pub stands : Stands ys link tree
@@ -46,6 +48,7 @@ pub record Mended {K V : Type 0} (xs ys : List (Node K V)) (link : ℕ) (items :
   pub long : length ys ≡ length xs
   pub same : (j : ℕ) → uses j items ≡ 0 → slice_get ys j ≡ slice_get xs j
 
+-- of two trees the one on a side
 abbrev pub tree_on : {K V : Type 0} → Side → Tree K V → Tree K V → Tree K V
 tree_on Left l r = l
 tree_on Right l r = r
@@ -63,6 +66,7 @@ pub record Uneven {K V : Type 0} (l r : Tree K V) : Type 0 where
   pub gap_left : tall l ≤ tall r + 2
   pub gap_right : tall r ≤ tall l + 2
 
+-- the slice now holds a balanced tree with x between the items of l and of r, and where l and r are about as tall, one taller than they
 pub record Balanced {K V : Type 0} (xs ys : List (Node K V)) (link : ℕ) (x : Item K V) (l r : Tree K V) : Type 0 where
   pub mended : Mended xs ys link (inorder l ++ x ∷ inorder r) (max (tall l) (tall r))
   pub level : Near (tall l) (tall r) → tall mended.tree ≡ max (tall l) (tall r) + 1

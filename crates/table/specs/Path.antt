@@ -27,7 +27,7 @@ abbrev pub top : {K V : Type 0} → List (Frame K V) → ℕ → ℕ
 top [] h = h
 top (on s x o ∷ fs) h = top fs (max h (tall o) + 1)
 
--- the same tree is balanced along the way
+-- at each node of the way, from the end up, the two sides are about as tall, with a tree of height h at the end
 abbrev pub Lvl : {K V : Type 0} → List (Frame K V) → ℕ → Type 0
 Lvl [] h = Unit {0}
 Lvl (on s x o ∷ fs) h = Near h (tall o) × Avl o × Lvl fs (max h (tall o) + 1)
@@ -47,7 +47,8 @@ abbrev pub steps : {K V : Type 0} → List (Frame K V) → List Step
 steps [] = []
 steps (on s x o ∷ fs) = steps fs ++ record { at = x.at; side = s } ∷ []
 
--- a tree t stands at the end of a way that fitted one of height h at the link old
+-- A tree t stands at the end of a way that fitted one of height h at the link old, and is about as tall. That the whole is no taller than
+-- 90 leaves room for the nodes that are turned.
 pub record Climb {K V : Type 0} (xs : List (Node K V)) (path : List Step) (link : ℕ) (fs : List (Frame K V)) (t : Tree K V) (h : ℕ) : Type 0 where
   pub stands : Stands xs link t
   pub old : ℕ
@@ -59,6 +60,7 @@ pub record Climb {K V : Type 0} (xs : List (Node K V)) (path : List Step) (link 
   pub near : Near h (tall t)
   pub low : top fs h ≤ 90
 
+-- the slice now holds a balanced tree with these items, about as tall as high, and no record of another place has changed
 pub record Climbed {K V : Type 0} (xs ys : List (Node K V)) (link : ℕ) (items : List (Item K V)) (high : ℕ) : Type 0 where
   pub tree : Tree K V
   pub stands : Stands ys link tree

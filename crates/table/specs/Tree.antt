@@ -12,6 +12,7 @@ pub data Tree (K V : Type 0) : Type 0 where
 abbrev pub none : ℕ
 none = 65535
 
+-- the link to a tree
 abbrev pub ptr : {K V : Type 0} → Tree K V → ℕ
 ptr leaf = none
 ptr (node x l r) = x.at
@@ -36,6 +37,7 @@ uses j (x ∷ xs) = one j x.at + uses j xs
 abbrev pub cell : {K V : Type 0} → Item K V → Tree K V → Tree K V → Node K V
 cell x l r = record { key = x.key; value = x.value; links = record { left = ptr l; right = ptr r }; height = max (tall l) (tall r) + 1 }
 
+-- the slice holds the records of a tree
 abbrev pub Rep : {K V : Type 0} → List (Node K V) → Tree K V → Type 0
 Rep xs leaf = Unit {0}
 Rep xs (node x l r) = (x.at < none) × (slice_get xs x.at ≡ Some (cell x l r)) × Rep xs l × Rep xs r

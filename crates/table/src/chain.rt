@@ -24,7 +24,8 @@ pub(crate) fn give_back<K: Copy, V: Copy>(nodes: &mut [Node<K, V>], next: u16, a
     };
 }
 
-// Chains all records, and answers where the chain begins.
+// Chains all records, and answers where the chain begins. By place, as `give_back` puts one record of a slice in front of a chain; the
+// places are what the chain links.
 pub(crate) fn chain_all<K: Copy, V: Copy>(nodes: &mut [Node<K, V>]) -> u16
     requires { length nodes.old ≤ 1024 }
     ensures { (us : List (Item K V)) × Chain nodes.new us × (result ≡ front_at us) × ((j : ℕ) → j < length nodes.new → uses j us ≡ 1) }

@@ -3,7 +3,8 @@ ghost use Rattle.std.specs.Prelude.{◌≡◌, Bool, nat_lt};
 ghost use Rattle.table.specs.Order.{Order, shorter};
 ghost use Rattle.std.proofs.Common.{rules};
 
-// What can be put in order.
+// What can be put in order. No `Ord`: that answers one of three, and what is asked of a key is one test with three laws, which the
+// definitions of both keys compute.
 pub trait Key: Copy {
     // Whether the first of two keys comes before the second.
     ghost before: { Self → Self → Bool };

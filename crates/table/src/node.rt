@@ -4,14 +4,16 @@ ghost use Rattle.table.specs.Edit.{item};
 
 use crate::side::Links;
 
-// The link to no record. A number and no option: memory is fixed, and a record takes 24 bytes. An `Option<u16>` takes 4 bytes, with a
+// The link to no record. A number and no option: memory is fixed, and a record takes 24 bytes, which no option of the library leaves, and a
+// type of two bytes with a method for it would be an option of our own. An `Option<u16>` takes 4 bytes, with a
 // tag of its own, and so does an `Option<NonZeroU16>`; with links of either a record took 32, as measured by `size_of`.
 pub(crate) const NONE: u16 = 65535;
 
 // How many records a table has.
 pub(crate) const RECORDS: usize = 1024;
 
-// A record. In the tree it links the roots of its two sides; unused, it links the next unused one on the left.
+// A record. In the tree it links the roots of its two sides; unused, it links the next unused one on the left. Key and value are no
+// `Entry` here: a search reads the key alone at each step, and what is said of a record would name a field more.
 #[derive(Clone, Copy)]
 pub(crate) struct Node<K, V> {
     pub(crate) key: K,
@@ -56,9 +58,9 @@ pub struct Entry<K, V> {
     pub value: V,
 }
 
-// The pairs on the two sides of a key: the last whose key comes before it, and the first whose key does not.
+// What is on the two sides of a key: the last whose key comes before it, and the first whose key does not.
 #[derive(Clone, Copy)]
-pub struct Beside<K, V> {
-    pub below: Option<Entry<K, V>>,
-    pub from: Option<Entry<K, V>>,
+pub struct Beside<T> {
+    pub below: T,
+    pub from: T,
 }

@@ -64,7 +64,8 @@ impl<K: Key, V: Copy> Table<K, V> {
         self.heads.len as usize
     }
 
-    // Puts a pair in, and answers whether it did: not where the key is there, or the table is full.
+    // Puts a pair in, and answers whether it did: not where the key is there, or the table is full. A caller that must tell the two apart
+    // asks `len`; an error for the two would be an enum that no caller reads.
     pub fn insert(&mut self, key: K, value: V) -> bool
         ensures { Inserts K.before (pairs self.old) (pairs self.new) (pair key value) result }
     {
@@ -127,7 +128,7 @@ impl<K: Key, V: Copy> Table<K, V> {
     }
 
     // The pairs on the two sides of a key: the last whose key comes before it, and the first whose key does not.
-    pub fn beside(&self, key: K) -> Beside<K, V>
+    pub fn beside(&self, key: K) -> Beside<Option<Entry<K, V>>>
         ensures below { result.below ≡ last (under K.before key (pairs self.now)) }
         ensures from { result.from ≡ first (from K.before key (pairs self.now)) }
     {

@@ -8,17 +8,10 @@ ghost use Rattle.table.specs.Parts.{Parted, final};
 
 use super::balance::read;
 use crate::key::Key;
-use crate::node::{NONE, Node};
-
-// The nodes on the two sides of a key.
-#[derive(Clone, Copy)]
-pub(crate) struct Sides {
-    pub(crate) below: u16,
-    pub(crate) from: u16,
-}
+use crate::node::{Beside, NONE, Node};
 
 // The last node whose key comes before a key, and the first whose key does not.
-pub(crate) fn around<K: Key, V: Copy>(nodes: &[Node<K, V>], root: u16, key: K) -> Sides
+pub(crate) fn around<K: Key, V: Copy>(nodes: &[Node<K, V>], root: u16, key: K) -> Beside<u16>
     requires { (t : Tree K V) × Whole K.before nodes.now root t }
     ensures { (t : Tree K V) → Whole K.before nodes.now root t → Parted K.before key result.below result.from (inorder t) }
 {
@@ -35,7 +28,7 @@ pub(crate) fn around<K: Key, V: Copy>(nodes: &[Node<K, V>], root: u16, key: K) -
             link = n.links.left;
         }
     }
-    Sides { below, from }
+    Beside { below, from }
 }
 
 // The last node of a tree.

@@ -7,5 +7,5 @@ use Rattle.space.proofs.space.Space.holder.Goals as goal
 pub returns : goal.returns
 returns c =
     let run = c.args.run in
-    let held = holds_is _ _ (spaced_in c.args.self.now) run.start run.len run.some c.requires c.sides.result.before c.filter.result c.sides.ensures.before (search rules) in
+    let held = holds_is _ _ (spaced_in c.args.self.now) run.start run.len run.some c.requires c.sides.result.below c.filter.result c.sides.ensures.below (search rules) in
     search rules

@@ -14,6 +14,6 @@ pub returns : goal.returns
 returns c =
     let now = c.args.self.now in
     record {
-      before = last_is (sectors_of now) _ c.args.sector (spaced_in now) _ c.beside-found.ensures.below _ c.run_of.ensures;
+      below = last_is (sectors_of now) _ c.args.sector (spaced_in now) _ c.beside-found.ensures.below _ c.run_of.ensures;
       from = first_is (sectors_of now) _ c.args.sector (spaced_in now) _ c.beside-found.ensures.from _ c.run_of-2.ensures;
     }
