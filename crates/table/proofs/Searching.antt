@@ -22,7 +22,7 @@ not_under before ordered key a y e h = go (before y key) refl
     go true f = absurd (both_ways (before a key) e (ordered.transitive a y key h f))
 
 module _ {K V : Type 0} where
-  final_end : (a : List (Item K V)) (x : Item K V) → final (a ++ x ∷ []) ≡ x.at
+  pub final_end : (a : List (Item K V)) (x : Item K V) → final (a ++ x ∷ []) ≡ x.at
   final_end [] x = refl
   final_end (y ∷ []) x = refl
   final_end (y ∷ z ∷ a) x = final_end (z ∷ a) x

@@ -82,3 +82,7 @@ pub record Refit {K V : Type 0} (xs : List (Node K V)) (at : ℕ) (side : Side) 
 abbrev pub Refitted : {K V : Type 0} → List (Node K V) → List (Node K V) → ℕ → Node K V → Tree K V → Tree K V → Option ℕ → Type 0
 Refitted xs ys at n l r (Some link) = Balanced xs ys link (item at n.key n.value) l r
 Refitted xs ys at n l r None = (b : Balanced xs ys at (item at n.key n.value) l r) × (tall b.mended.tree ≡ n.height)
+
+-- a record with another key and value
+abbrev pub refilled : {K V : Type 0} → K → V → Node K V → Node K V
+refilled key value n = record { key = key; value = value; links = n.links; height = n.height }

@@ -65,3 +65,13 @@ pub record Inserts {K V : Type 0} (before : K → K → Bool) (ps qs : List (Ent
 pub record Removes {K V : Type 0} (before : K → K → Bool) (ps qs : List (Entry K V)) (key : K) (r : Option V) : Type 0 where
   pub answers : r ≡ find before key ps
   pub leaves : qs ≡ without before key ps
+
+-- each other key lies on the same side of both keys
+abbrev pub same_side : {K V : Type 0} → (K → K → Bool) → K → K → List (Entry K V) → Bool
+same_side before key new [] = true
+same_side before key new (y ∷ ys) = (alike before key y.key || cond (before y.key key) (before y.key new) (before new y.key)) && same_side before key new ys
+
+-- The pair of a key gives way to another pair, where each other key lies on the same side of both; otherwise all stays as it was.
+pub record Replaces {K V : Type 0} (before : K → K → Bool) (ps qs : List (Entry K V)) (key : K) (x : Entry K V) (took : Bool) : Type 0 where
+  pub takes : took ≡ has before key ps && same_side before key x.key ps
+  pub leaves : qs ≡ cond took (put before x (without before key ps)) ps

@@ -9,6 +9,7 @@ use crate::side::Links;
 use crate::tree::balance::read;
 use crate::tree::edit;
 use crate::tree::find::{around, right_end};
+use crate::tree::seat::{refill, seat};
 
 // The table of starts: for each start a length.
 pub type StartTable = Table<u64, u64>;
@@ -51,7 +52,7 @@ impl<K: Key + Default, V: Copy + Default> Table<K, V> {
 
 impl<K: Key, V: Copy> Table<K, V> {
     ghost use Rattle.std.specs.Prelude.{◌≡◌, ◌≤◌, length};
-    ghost use Rattle.table.specs.Pairs.{pair, Ordered, find, under, from, first, last, Inserts, Removes};
+    ghost use Rattle.table.specs.Pairs.{pair, Ordered, find, under, from, first, last, Inserts, Removes, Replaces};
     ghost use Rattle.table.specs.Sound.{entry_at};
     ghost use Rattle.table.specs.Table.{pairs};
 
@@ -99,6 +100,17 @@ impl<K: Key, V: Copy> Table<K, V> {
             len: self.heads.len - 1,
         };
         Some(value)
+    }
+
+    // Puts a pair in place of that of a key, where each other key lies on the same side of both keys, and answers whether it did.
+    pub fn replace(&mut self, key: K, new: K, value: V) -> bool
+        ensures { Replaces K.before (pairs self.old) (pairs self.new) key (pair new value) result }
+    {
+        let Some(at) = seat(&self.nodes, self.heads.root, key, new) else {
+            return false;
+        };
+        refill(&mut self.nodes, at, new, value);
+        true
     }
 
     // The value of a key.
