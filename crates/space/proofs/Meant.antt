@@ -36,16 +36,7 @@ pub no_fault : (before after : Space) (meant : Result Sectors Fault) (free : Sec
 no_fault before after meant free (Ok u) fine done = refl
 no_fault before after meant free (Err f) fine fault = let z : ◌≡◌ {A = ℕ} 0 1 = cc in absurd (omega arith)
 
--- the run has a free extent beside it, or there is room for one more
-pub room_left : (first start last end n : ℕ) → ((eqb first start && eqb last end) && leb most_extents n) ≡ false →
-    (first ≡ start → ⊥) ⊎ ((last ≡ end → ⊥) ⊎ (n < most_extents))
-room_left first start last end n h =
-    elim (and_cases (eqb first start && eqb last end) (leb most_extents n) h) [
-      | inl some ↦ elim (and_cases (eqb first start) (eqb last end) some) [ inl a ↦ inl (eqb-false _ _ a) | inr b ↦ inr (inl (eqb-false _ _ b)) ]
-      | inr room ↦ inr (inr (leb-false _ _ room))
-    ]
-
--- it has none, and there is no room
+-- the run has no free extent beside it, and there is no room for one more
 pub full_alone : (first start last end n : ℕ) → ((eqb first start && eqb last end) && leb most_extents n) ≡ true →
     (first ≡ start) × (last ≡ end) × (most_extents ≤ n)
 full_alone first start last end n h =

@@ -1,12 +1,12 @@
 -- One extent put into both lists of extents, or taken out of both: what holds of the lists then.
-use Rattle.std.proofs.Common.{◌≡◌, ℕ, ◌+◌, ◌<◌, ◌≤◌, Bool, true, false, cond, ltb, [], ◌∷◌, length, Option, sym, refl, ap, ◌∙◌, subst, inl, inr, zero-add, arith}
+use Rattle.std.proofs.Common.{◌≡◌, ℕ, ◌+◌, ◌-◌, ◌<◌, ◌≤◌, Bool, true, false, cond, ltb, [], ◌∷◌, length, Option, sym, refl, ap, ◌∙◌, subst, inl, inr, zero-add, arith}
 use mathlib.Core.Path.{fun_ext}
 use Rattle.std.proofs.lemmas.Bool.{both_ways, or_cases, not_from_false, and_from, lt-ltb}
 use Rattle.std.proofs.lemmas.Bool.Decides.{nat_tests}
 use Rattle.slab_log.specs.Sectors.{whole}
 use Rattle.slab_log.specs.Replay.{grant, give_back}
 use Rattle.table.specs.Order.{shorter}
-use Rattle.table.specs.Pairs.{Ordered, pair, put, without, alike, has, Inserts, Removes}
+use Rattle.table.specs.Pairs.{Ordered, pair, put, without, find, alike, has, Inserts, Removes, Replaces}
 use Rattle.space.specs.Extents.{Starts, Lengths, free_of, total, Spaced, in_list, span, Twins}
 use Rattle.space.specs.Tables.{Clear}
 use Rattle.space.proofs.Spaced.{filled}
@@ -95,6 +95,31 @@ module _ (size free a n : ℕ) (es es' : Starts) (ls ls' : Lengths) (h : Held si
         sectors = ap free_of is ∙ fun_ext (without_free a n 0 size es h.spaced i);
         fewer = long;
       }
+
+-- one extent in place of another
+module _ (size free a n b m : ℕ) (es es' : Starts) (ls mid ls' : Lengths) (h : Held size free es ls) where
+  pub record Exchanged : Type 0 where
+    pub few : n ≤ free
+    pub held : Held size (free - n + m) es' ls'
+    pub sectors : free_of es' ≡ give_back (grant (free_of es) a n) b m
+    pub level : length es' ≡ length es
+
+  pub exchange_both : in_list a n es ≡ true → Ordered shorter ls → length es ≤ 1024 → 1 ≤ m → b + m ≤ size → Clear (grant (free_of es) a n) b m → (t c : Bool) → t ≡ true →
+      Replaces ltb es es' a (pair b m) t → (q : Option (Unit {0})) → Removes shorter ls mid (span a n) q → Inserts shorter mid ls' (pair (span b m) tt) c → Exchanged
+  exchange_both i ordered most some fits clear t c took x q y z =
+      let rest : Starts = without ltb a es in
+      let out : Taken size free a n es rest ls mid h = take_both size free a n es rest ls mid h i ordered (find ltb a es) q (record { answers = refl; leaves = refl }) y in
+      let few = out.few in
+      let fewer = out.fewer in
+      let held = out.held (free - n) (omega arith) in
+      let apart = subst (λ f. Clear f b m) (sym out.sectors) clear in
+      let empty : free_of rest b ≡ false = apart b (omega arith) (omega arith) in
+      let fresh : has ltb b rest ≡ false = not_true_false _ (λ on. both_ways _ empty (key_free 0 size rest b held.spaced on)) in
+      let room : length rest < 1024 = omega arith in
+      let into : Inserts ltb rest es' (pair b m) true = record { takes = sym (and_from _ _ (not_from_false _ fresh) (lt-ltb _ _ room)); leaves = x.leaves ∙ ap (λ v. cond v (put ltb (pair b m) rest) es) took } in
+      let put = put_both size (free - n) b m rest es' mid ls' held some fits apart room true c into z in
+      let more = put.more in
+      record { few = few; held = put.held; sectors = put.sectors ∙ ap (λ f. give_back f b m) out.sectors; level = omega arith }
 
 -- the extent of a whole slab, put into empty lists
 pub record Begun (n : ℕ) (es : Starts) (ls : Lengths) : Type 0 where

@@ -1,9 +1,9 @@
 // Granting and giving back extents.
 ghost use Rattle.std.specs.Prelude.{◌≡◌, ◌+◌, ◌-◌, ◌^◌, ◌<◌, ◌≤◌, length, Some};
-ghost use Rattle.slab_log.specs.Replay.{grant, granting, returning};
+ghost use Rattle.slab_log.specs.Replay.{grant, give_back, granting, returning};
 ghost use Rattle.table.specs.Table.{pairs as starts};
 ghost use Rattle.space.specs.Free.{sectors_of, free_in, Changes};
-ghost use Rattle.space.specs.Tables.{HasPlace, Moved, Holds};
+ghost use Rattle.space.specs.Tables.{HasPlace, Moved, Holds, Apart};
 
 use crate::run::SectorRun;
 use crate::search::Edges;
@@ -61,30 +61,65 @@ impl Space {
         ensures { Moved self.old self.new (grant (free_in self.old) run.start run.len) }
     {
         let end = run.end();
+        let behind = holder.end() - end;
+        if (holder.start == run.start) & (behind > 0) {
+            let rest = SectorRun {
+                start: end,
+                len: behind,
+            };
+            self.exchange(holder, rest);
+            return;
+        }
         self.take_out(holder);
         self.put_end(holder.start, run.start - holder.start);
-        self.put_end(end, holder.end() - end);
+        self.put_end(end, behind);
     }
 
     pub(crate) fn return_run(&mut self, run: SectorRun) -> Result<(), Fault>
         ensures { Changes self.old (returning (sectors_of self.old) (free_in self.old) run.start run.len) self.new result }
     {
-        let start = run.start;
         let end = run.end();
         if end > self.size.sectors {
             return Err(Fault::Bounds);
         }
-        let Edges { first, last } = self.edges(run).ok_or(Fault::Again)?;
-        let alone = (first == start) & (last == end);
+        let edges = self.edges(run).ok_or(Fault::Again)?;
+        let alone = (edges.first == run.start) & (edges.last == end);
         if alone & (self.by_start.len() >= MOST_EXTENTS) {
             return Err(Fault::Crowded);
         }
-        self.take_end(first, start - first);
-        self.take_end(end, last - end);
-        self.put_in(SectorRun {
+        self.grow(run, edges);
+        Ok(())
+    }
+
+    // Makes a run of used sectors free, together with the free extents beside it.
+    fn grow(&mut self, run: SectorRun, edges: Edges)
+        requires fits { run.start + run.len ≤ sectors_of self.old }
+        requires apart { Apart (starts self.old.by_start) run.start run.len edges }
+        requires room { edges.first ≡ run.start → edges.last ≡ run.start + run.len → HasPlace self.old }
+        ensures { Moved self.old self.new (give_back (free_in self.old) run.start run.len) }
+    {
+        let start = run.start;
+        let end = run.end();
+        let Edges { first, last } = edges;
+        let grown = SectorRun {
             start: first,
             len: last - first,
-        });
-        Ok(())
+        };
+        if end < last {
+            self.take_end(first, start - first);
+            let right = SectorRun {
+                start: end,
+                len: last - end,
+            };
+            self.exchange(right, grown);
+        } else if first < start {
+            let left = SectorRun {
+                start: first,
+                len: start - first,
+            };
+            self.exchange(left, grown);
+        } else {
+            self.put_in(grown);
+        }
     }
 }

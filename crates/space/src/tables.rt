@@ -37,6 +37,33 @@ impl Space {
         self.free += len;
     }
 
+    // Puts an extent in place of a free one. With that one out, it has no free sector in it or beside it.
+    pub(crate) fn exchange(&mut self, old: SectorRun, new: SectorRun)
+        requires held { in_list old.start old.len (starts self.old.by_start) ≡ true }
+        requires within { new.start + new.len ≤ sectors_of self.old }
+        requires clear { Clear (grant (free_in self.old) old.start old.len) new.start new.len }
+        ensures moved { Moved self.old self.new (give_back (grant (free_in self.old) old.start old.len) new.start new.len) }
+        ensures level { length (starts self.new.by_start) ≡ length (starts self.old.by_start) }
+    {
+        if self.by_start.replace(old.start, new.start, new.len) {
+            let _ = self.by_length.remove(LengthKey {
+                len: old.len,
+                start: old.start,
+            });
+            let _ = self.by_length.insert(
+                LengthKey {
+                    len: new.len,
+                    start: new.start,
+                },
+                (),
+            );
+            self.free = self.free - old.len + new.len;
+        } else {
+            self.take_out(old);
+            self.put_in(new);
+        }
+    }
+
     // Puts an extent in, unless it is empty. As an option of a run it would be said in two cases, where the sectors of an empty one are said
     // as those of any. This and `take_end` owe opposite facts: one function over a closure would need both.
     pub(crate) fn put_end(&mut self, start: u64, len: u64)

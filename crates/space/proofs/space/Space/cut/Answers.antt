@@ -1,11 +1,46 @@
--- The free extent is taken out, and its two ends are put in again.
-use Rattle.std.proofs.Common.{◌+◌, ◌-◌, sym, ap, ◌∙◌, subst, inl, inr, arith}
-use Rattle.std.proofs.lemmas.Bool.{cases_lt}
-use Rattle.slab_log.specs.Replay.{give_back}
+-- What stays behind the run takes the place of the free extent, or that is taken out, and its two ends are put in again.
+use Rattle.std.proofs.Common.{◌≡◌, ◌+◌, ◌-◌, ◌<◌, sym, ap, ◌∙◌, subst, inl, inr, arith}
+use Rattle.std.proofs.lemmas.Bool.{cases_lt, and_parts, eqb-true, ltb-true}
+use Rattle.slab_log.specs.Replay.{grant, give_back}
+use Rattle.space.specs.Free.{free_in}
 use Rattle.space.specs.Tables.{Clear}
+use Rattle.space.proofs.Emptied.{none_given}
 use Rattle.space.proofs.Spaces.{spaced_in, lies_in, few_in}
 use Rattle.space.proofs.Cutting.{front_clear, back_clear, cut_is}
 use Rattle.space.proofs.space.Space.cut.Goals as goal
+
+pub exchange-requires-clause-within : goal.exchange-requires-clause-within
+exchange-requires-clause-within c =
+    omega (arith, (lies_in c.args.self.now _ _ c.requires.held.0).within, c.end.ensures, c.end-end.ensures, c.requires.held.2)
+
+pub exchange-requires-clause-clear : goal.exchange-requires-clause-clear
+exchange-requires-clause-clear c =
+    let now = c.args.self.now in
+    let k = c.args.holder.start in
+    let v = c.args.holder.len in
+    let run = c.args.run in
+    let held = c.requires.held in
+    let same : k ≡ run.start = eqb-true _ _ (and_parts _ _ c.if-holder-run.true).0 in
+    let front : grant (free_in now) k v ≡ give_back (grant (free_in now) k v) k (run.start - k) = none_given _ _ _ (omega arith) in
+    let some : 0 < c.end.result - c.end-end.result = ltb-true _ _ (and_parts _ _ c.if-holder-run.true).1 in
+    let clear = back_clear _ _ (spaced_in now) k v held.0 run.start run.len run.some held.1 held.2 (omega (arith, some, c.end.ensures, c.end-end.ensures)) in
+    rw (c.end-end.ensures, c.end.ensures) (subst (λ f. Clear f (run.start + run.len) ((k + v) - (run.start + run.len))) (sym front) clear)
+
+pub returns-then-holder-run : goal.returns-then-holder-run
+returns-then-holder-run c =
+    let now = c.args.self.now in
+    let k = c.args.holder.start in
+    let v = c.args.holder.len in
+    let run = c.args.run in
+    let held = c.requires.held in
+    let same : k ≡ run.start = eqb-true _ _ (and_parts _ _ c.if-holder-run.true).0 in
+    let front : grant (free_in now) k v ≡ give_back (grant (free_in now) k v) k (run.start - k) = none_given _ _ _ (omega arith) in
+    let is = cut_is _ _ (spaced_in now) k v held.0 run.start run.len run.some held.1 held.2 in
+    let end = run.start + run.len in
+    record {
+      sectors = rw (c.end-end.ensures, c.end.ensures) at c.exchange.ensures.moved.sectors ∙ (ap (λ f. give_back f end ((k + v) - end)) front ∙ is);
+      size = c.exchange.ensures.moved.size;
+    }
 
 pub put_end-requires : goal.put_end-requires
 put_end-requires c =
