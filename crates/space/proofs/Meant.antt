@@ -1,6 +1,6 @@
 -- What granting and giving back mean, once their tests are known.
-use Rattle.std.proofs.Common.{◌≡◌, ℕ, ◌+◌, ◌<◌, ◌≤◌, true, false, ◌&&◌, eqb, ltb, leb, ◌⊎◌, Result, Ok, Err, refl, inl, inr, arith}
-use Rattle.std.proofs.lemmas.Bool.{le-ltb, le-leb, lt-leb, and_cases, and_parts, eqb-true, eqb-false, leb-true, leb-false}
+use Rattle.std.proofs.Common.{◌≡◌, ℕ, ◌+◌, ◌<◌, ◌≤◌, true, false, ◌&&◌, eqb, ltb, leb, Result, Ok, Err, refl, arith}
+use Rattle.std.proofs.lemmas.Bool.{le-ltb, le-leb, lt-leb, and_parts, eqb-true, leb-true}
 use Rattle.std.specs.Prelude.{IsOk}
 use Rattle.slab_log.specs.Limits.{most_extents}
 use Rattle.slab_log.specs.Sectors.{Sectors, used, meets, runs}
