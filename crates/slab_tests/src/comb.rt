@@ -1,6 +1,6 @@
 // Near the most free extents: 1,023 of them may stand when a call is accepted, and 1,024 only in a log that is loaded.
 use crate::helpers::{
-    again, figures, free_teeth, frees, fresh, grants, log_teeth, next_is, refuses_return,
+    again, figures, free_teeth, frees, fresh, grants, log_teeth, next_is, on_fresh, refuses_return,
 };
 use disk_slab::{Cold, Live};
 use slab_log::{Refusal, Size};
@@ -36,10 +36,7 @@ fn return_into_comb(rt: &impl Abort, slab: &mut Live<OwnStore>) -> Result<(), Fa
 
 #[test]
 fn at_1023_extents_a_lone_return_is_refused(rt: HostRuntime) -> Result<(), Fail> {
-    let mut slab = fresh(Size::new(4_096)?);
-    let done = return_into_comb(&rt, &mut slab);
-    let _ = slab.close();
-    done
+    on_fresh(4_096, |slab| return_into_comb(&rt, slab))
 }
 
 fn condense_comb(rt: &impl Abort, slab: &mut Live<OwnStore>) -> Result<(), Fail> {

@@ -1,5 +1,5 @@
 // A run of 40,000 sectors in use is two words of a condensed log, and is in use when that log is loaded.
-use crate::helpers::{again, figures, frees, fresh, grants, refuses_want};
+use crate::helpers::{again, figures, frees, fresh, grants, on_fresh, refuses_want};
 use disk_slab::Live;
 use slab_log::{Refusal, Size};
 use std::process::Abort;
@@ -56,8 +56,5 @@ fn nothing_to_keep(rt: &impl Abort, slab: &mut Live<OwnStore>) -> Result<(), Fai
 
 #[test]
 fn with_nothing_in_use_no_word_is_left(rt: HostRuntime) -> Result<(), Fail> {
-    let mut slab = fresh(Size::new(50)?);
-    let done = nothing_to_keep(&rt, &mut slab);
-    let _ = slab.close();
-    done
+    on_fresh(50, |slab| nothing_to_keep(&rt, slab))
 }

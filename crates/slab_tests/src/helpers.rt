@@ -10,6 +10,19 @@ pub(crate) fn fresh(size: Size) -> Live<OwnStore> {
     Cold::open(OwnStore::new(), size).load()
 }
 
+// Calls on a slab of so many sectors of which nothing is in use, and closes it.
+pub(crate) fn on_fresh<F: FnOnce(&mut Live<OwnStore>) -> Result<(), Fail>>(
+    sectors: u64,
+    calls: F,
+) -> Result<(), Fail>
+    requires { F.IsAlwaysCallable calls }
+{
+    let mut slab = fresh(Size::new(sectors)?);
+    let done = calls(&mut slab);
+    let _ = slab.close();
+    done
+}
+
 // The slab closed, opened and loaded.
 pub(crate) fn again<S: LogStore>(slab: Live<S>) -> Live<S> {
     let size = slab.size();
