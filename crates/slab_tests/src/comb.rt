@@ -1,8 +1,9 @@
 // Near the most free extents: 1,023 of them may stand when a call is accepted, and 1,024 only in a log that is loaded.
 use crate::helpers::{
-    again, figures, free_teeth, frees, fresh, grants, log_teeth, next_is, on_fresh, refuses_return,
+    again, figures, free_teeth, frees, fresh, grants, next_is, on_fresh, refuses_return,
 };
 use disk_slab::{Cold, Live};
+use samples::comb_of;
 use slab_log::{Refusal, Size};
 use std::process::Abort;
 use std::test::Fail;
@@ -123,9 +124,7 @@ fn with_1024(rt: &impl Abort, slab: &mut Live<OwnStore>) -> Result<(), Fail> {
 #[test]
 fn a_log_with_1024_extents_is_loaded_and_not_condensed(rt: HostRuntime) -> Result<(), Fail> {
     let size = Size::new(4_096)?;
-    let mut store = OwnStore::new();
-    log_teeth(&mut store, 1, 1_023)?;
-    let mut slab = Cold::open(store, size).load();
+    let mut slab = Cold::open(comb_of(1_023)?, size).load();
     let done = with_1024(&rt, &mut slab);
     let _ = slab.close();
     done

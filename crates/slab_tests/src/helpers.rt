@@ -1,9 +1,9 @@
 // What several tests share: slabs over own stores, loading anew, and checked calls.
 use disk_slab::{Cold, Figures, Live};
-use slab_log::{Effect, Extent, Refusal, Size};
+use slab_log::{Extent, Refusal, Size};
 use std::process::Abort;
 use std::test::Fail;
-use store::{LogStore, OwnStore, add_extent};
+use store::{LogStore, OwnStore};
 
 // A slab of which nothing is in use.
 pub(crate) fn fresh(size: Size) -> Live<OwnStore> {
@@ -103,14 +103,6 @@ pub(crate) fn next_is<S: LogStore>(
 // Of the sectors `first`, `first + 2`, `first + 4` and so on the one at a place, as an extent.
 fn tooth(first: u64, place: u64) -> Result<Extent, Refusal> {
     Extent::new(place.wrapping_mul(2).wrapping_add(first), 1)
-}
-
-// Logs that the first `n` teeth are taken.
-pub(crate) fn log_teeth(store: &mut OwnStore, first: u64, n: u64) -> Result<(), Fail> {
-    for place in 0..n {
-        add_extent(store, Effect::Allocates, tooth(first, place)?)?;
-    }
-    Ok(())
 }
 
 // Gives the first `n` teeth back.
