@@ -14,11 +14,8 @@ pub fn comb_of(teeth: u16) -> Result<OwnStore, Refusal>
 {
     let mut store = OwnStore::new();
     for tooth in 0..u64::from(teeth) {
-        add_extent(
-            &mut store,
-            Effect::Allocates,
-            Extent::new(2 * tooth + 1, 1)?,
-        )?;
+        let extent = Extent::new(2 * tooth + 1, 1)?;
+        add_extent(&mut store, Effect::Allocates, extent)?;
     }
     Ok(store)
 }

@@ -9,9 +9,9 @@ use Rattle.samples.proofs.combs.comb_of.Goals as goal
 
 pub returns-in_err-add_extent-clause-full : goal.returns-in_err-add_extent-clause-full
 returns-in_err-add_extent-clause-full c =
-    let e = c.in_ok-new.field-0 in
+    let e = c.in_ok-extent.extent in
     let long : length c.loop-tooth.store.words.items ≡ c.loop-tooth.tooth = ap length c.loop-tooth.invariant ∙ comb_length c.loop-tooth.tooth in
-    let one : length (words_of Allocates e.start e.length) ≡ 1 = ap (λ n. length (words_of Allocates e.start n)) c.in_ok-new.ensures.1 in
+    let one : length (words_of Allocates e.start e.length) ≡ 1 = ap (λ n. length (words_of Allocates e.start n)) c.in_ok-extent.ensures.1 in
     let lacks = c.in_err-add_extent.ensures.adds in
     let none : own_places - length c.loop-tooth.store.words.items ≡ 0 = omega (arith, one, lacks.0) in
     let p = err_from_is_err_and c.from_residual-in_err-add_extent.result c.from_residual-in_err-add_extent.ensures.1 in
