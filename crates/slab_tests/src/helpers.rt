@@ -6,7 +6,7 @@ use std::test::Fail;
 use store::{LogStore, OwnStore};
 
 // A slab of which nothing is in use.
-pub(crate) fn fresh(size: Size) -> Live<OwnStore> {
+fn fresh(size: Size) -> Live<OwnStore> {
     Cold::open(OwnStore::new(), size).load()
 }
 
@@ -24,9 +24,38 @@ pub(crate) fn on_fresh<F: FnOnce(&mut Live<OwnStore>) -> Result<(), Fail>>(
 }
 
 // The slab closed, opened and loaded.
-pub(crate) fn again<S: LogStore>(slab: Live<S>) -> Live<S> {
+fn again<S: LogStore>(slab: Live<S>) -> Live<S> {
     let size = slab.size();
     Cold::open(slab.close(), size).load()
+}
+
+// Calls on a slab, where the calls before did not fail. An `and_then` in place of this function was tried: its closure gets no proof.
+fn go_on<F: FnOnce(&mut Live<OwnStore>) -> Result<(), Fail>>(
+    before: Result<(), Fail>,
+    slab: &mut Live<OwnStore>,
+    calls: F,
+) -> Result<(), Fail>
+    requires { F.IsAlwaysCallable calls }
+{
+    before?;
+    calls(slab)
+}
+
+// The same as `on_fresh`, and then calls on the slab that its store loads to; the store is handed back.
+pub(crate) fn on_fresh_and_again<
+    F: FnOnce(&mut Live<OwnStore>) -> Result<(), Fail>,
+    G: FnOnce(&mut Live<OwnStore>) -> Result<(), Fail>,
+>(sectors: u64, before: F, after: G) -> Result<OwnStore, Fail>
+    requires before { F.IsAlwaysCallable before }
+    requires after { G.IsAlwaysCallable after }
+{
+    let mut slab = fresh(Size::new(sectors)?);
+    let first = before(&mut slab);
+    let mut slab = again(slab);
+    let done = go_on(first, &mut slab, after);
+    let store = slab.close();
+    done?;
+    Ok(store)
 }
 
 // What a slab tells of itself. Four numbers and no Figures, with which each of 32 calls takes ten lines in place of one.
