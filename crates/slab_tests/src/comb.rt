@@ -1,8 +1,9 @@
 // Near the most free extents: 1,023 of them may stand when a call is accepted, and 1,024 only in a log that is loaded.
 use crate::helpers::{
-    again, figures, free_teeth, frees, fresh, grants, log_teeth, next_is, refuses_return,
+    figures, free_teeth, frees, grants, next_is, on_fresh, on_fresh_and_again, refuses_return,
 };
 use disk_slab::{Cold, Live};
+use samples::comb_of;
 use slab_log::{Refusal, Size};
 use std::process::Abort;
 use std::test::Fail;
@@ -36,10 +37,7 @@ fn return_into_comb(rt: &impl Abort, slab: &mut Live<OwnStore>) -> Result<(), Fa
 
 #[test]
 fn at_1023_extents_a_lone_return_is_refused(rt: HostRuntime) -> Result<(), Fail> {
-    let mut slab = fresh(Size::new(4_096)?);
-    let done = return_into_comb(&rt, &mut slab);
-    let _ = slab.close();
-    done
+    on_fresh(4_096, |slab| return_into_comb(&rt, slab))
 }
 
 fn condense_comb(rt: &impl Abort, slab: &mut Live<OwnStore>) -> Result<(), Fail> {
@@ -49,13 +47,7 @@ fn condense_comb(rt: &impl Abort, slab: &mut Live<OwnStore>) -> Result<(), Fail>
     Ok(())
 }
 
-// `before` is what the calls before the load came to.
-fn comb_is_loaded(
-    rt: &impl Abort,
-    slab: &Live<OwnStore>,
-    before: Result<(), Fail>,
-) -> Result<(), Fail> {
-    before?;
+fn comb_is_loaded(rt: &impl Abort, slab: &Live<OwnStore>) -> Result<(), Fail> {
     assert_eq!(rt; slab.fault(), None);
     next_is(rt, slab, 2_041, 2_042, 1)?;
     next_is(rt, slab, 2_043, 2_050, 2_046)?;
@@ -65,12 +57,12 @@ fn comb_is_loaded(
 
 #[test]
 fn at_1023_extents_a_condensed_log_is_loaded(rt: HostRuntime) -> Result<(), Fail> {
-    let mut slab = fresh(Size::new(4_096)?);
-    let condensed = condense_comb(&rt, &mut slab);
-    let slab = again(slab);
-    let done = comb_is_loaded(&rt, &slab, condensed);
-    let _ = slab.close();
-    done
+    on_fresh_and_again(
+        4_096,
+        |slab| condense_comb(&rt, slab),
+        |slab| comb_is_loaded(&rt, slab),
+    )?;
+    Ok(())
 }
 
 // 32,770, 32,772, .., 34,812 are free, and 40,000 to 65,535: 1,023 free extents. The return of 1 to 32,769 is two words; after
@@ -85,12 +77,7 @@ fn return_long(rt: &impl Abort, slab: &mut Live<OwnStore>) -> Result<(), Fail> {
     Ok(())
 }
 
-fn long_is_loaded(
-    rt: &impl Abort,
-    slab: &Live<OwnStore>,
-    before: Result<(), Fail>,
-) -> Result<(), Fail> {
-    before?;
+fn long_is_loaded(rt: &impl Abort, slab: &Live<OwnStore>) -> Result<(), Fail> {
     assert_eq!(rt; slab.fault(), None);
     next_is(rt, slab, 0, 1, 32_770)?;
     figures(rt, slab, 59_327, 1_023, 32_770, 1_026);
@@ -99,12 +86,12 @@ fn long_is_loaded(
 
 #[test]
 fn a_long_return_that_joins_its_right_neighbour_is_loaded(rt: HostRuntime) -> Result<(), Fail> {
-    let mut slab = fresh(Size::new(65_536)?);
-    let returned = return_long(&rt, &mut slab);
-    let slab = again(slab);
-    let done = long_is_loaded(&rt, &slab, returned);
-    let _ = slab.close();
-    done
+    on_fresh_and_again(
+        65_536,
+        |slab| return_long(&rt, slab),
+        |slab| long_is_loaded(&rt, slab),
+    )?;
+    Ok(())
 }
 
 // 1, 3, .., 2,045 are in use.
@@ -126,9 +113,7 @@ fn with_1024(rt: &impl Abort, slab: &mut Live<OwnStore>) -> Result<(), Fail> {
 #[test]
 fn a_log_with_1024_extents_is_loaded_and_not_condensed(rt: HostRuntime) -> Result<(), Fail> {
     let size = Size::new(4_096)?;
-    let mut store = OwnStore::new();
-    log_teeth(&mut store, 1, 1_023)?;
-    let mut slab = Cold::open(store, size).load();
+    let mut slab = Cold::open(comb_of(1_023)?, size).load();
     let done = with_1024(&rt, &mut slab);
     let _ = slab.close();
     done

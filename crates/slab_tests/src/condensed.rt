@@ -1,7 +1,7 @@
 // A run of 40,000 sectors in use is two words of a condensed log, and is in use when that log is loaded.
-use crate::helpers::{again, figures, frees, fresh, grants, refuses_want};
+use crate::helpers::{figures, frees, grants, on_fresh, on_fresh_and_again, refuses_want};
 use disk_slab::Live;
-use slab_log::{Refusal, Size};
+use slab_log::Refusal;
 use std::process::Abort;
 use std::test::Fail;
 use store::{LogStore, OwnStore};
@@ -17,13 +17,7 @@ fn condense_long(rt: &impl Abort, slab: &mut Live<OwnStore>) -> Result<(), Fail>
     Ok(())
 }
 
-// `before` is what the calls before the load came to.
-fn grant_the_rest(
-    rt: &impl Abort,
-    slab: &mut Live<OwnStore>,
-    before: Result<(), Fail>,
-) -> Result<(), Fail> {
-    before?;
+fn grant_the_rest(rt: &impl Abort, slab: &mut Live<OwnStore>) -> Result<(), Fail> {
     assert_eq!(rt; slab.fault(), None);
     figures(rt, slab, 10_000, 1, 10_000, 2);
     refuses_want(rt, slab, 10_001, Refusal::NoSpace);
@@ -35,12 +29,11 @@ fn grant_the_rest(
 
 #[test]
 fn a_long_run_in_use_stays_in_use(rt: HostRuntime) -> Result<(), Fail> {
-    let mut slab = fresh(Size::new(50_000)?);
-    let condensed = condense_long(&rt, &mut slab);
-    let mut slab = again(slab);
-    let done = grant_the_rest(&rt, &mut slab, condensed);
-    let store = slab.close();
-    done?;
+    let store = on_fresh_and_again(
+        50_000,
+        |slab| condense_long(&rt, slab),
+        |slab| grant_the_rest(&rt, slab),
+    )?;
     assert_eq!(rt; store.word(0)?, 0x7FFF);
     assert_eq!(rt; store.word(1)?, 0x8000_1C3F);
     Ok(())
@@ -56,8 +49,5 @@ fn nothing_to_keep(rt: &impl Abort, slab: &mut Live<OwnStore>) -> Result<(), Fai
 
 #[test]
 fn with_nothing_in_use_no_word_is_left(rt: HostRuntime) -> Result<(), Fail> {
-    let mut slab = fresh(Size::new(50)?);
-    let done = nothing_to_keep(&rt, &mut slab);
-    let _ = slab.close();
-    done
+    on_fresh(50, |slab| nothing_to_keep(&rt, slab))
 }

@@ -1,7 +1,6 @@
 // A grant begins the shortest free extent that is long enough, and of several such the lowest.
-use crate::helpers::{figures, frees, fresh, grants, next_is};
+use crate::helpers::{figures, frees, grants, next_is, on_fresh};
 use disk_slab::Live;
-use slab_log::Size;
 use std::process::Abort;
 use std::test::Fail;
 use store::OwnStore;
@@ -29,8 +28,5 @@ fn grants_fit(rt: &impl Abort, slab: &mut Live<OwnStore>) -> Result<(), Fail> {
 
 #[test]
 fn grants_begin_the_best_fit(rt: HostRuntime) -> Result<(), Fail> {
-    let mut slab = fresh(Size::new(100)?);
-    let done = grants_fit(&rt, &mut slab);
-    let _ = slab.close();
-    done
+    on_fresh(100, |slab| grants_fit(&rt, slab))
 }

@@ -1,19 +1,61 @@
 // What several tests share: slabs over own stores, loading anew, and checked calls.
 use disk_slab::{Cold, Figures, Live};
-use slab_log::{Effect, Extent, Refusal, Size};
+use slab_log::{Extent, Refusal, Size};
 use std::process::Abort;
 use std::test::Fail;
-use store::{LogStore, OwnStore, add_extent};
+use store::{LogStore, OwnStore};
 
 // A slab of which nothing is in use.
-pub(crate) fn fresh(size: Size) -> Live<OwnStore> {
+fn fresh(size: Size) -> Live<OwnStore> {
     Cold::open(OwnStore::new(), size).load()
 }
 
+// Calls on a slab of so many sectors of which nothing is in use, and closes it.
+pub(crate) fn on_fresh<F: FnOnce(&mut Live<OwnStore>) -> Result<(), Fail>>(
+    sectors: u64,
+    calls: F,
+) -> Result<(), Fail>
+    requires { F.IsAlwaysCallable calls }
+{
+    let mut slab = fresh(Size::new(sectors)?);
+    let done = calls(&mut slab);
+    let _ = slab.close();
+    done
+}
+
 // The slab closed, opened and loaded.
-pub(crate) fn again<S: LogStore>(slab: Live<S>) -> Live<S> {
+fn again<S: LogStore>(slab: Live<S>) -> Live<S> {
     let size = slab.size();
     Cold::open(slab.close(), size).load()
+}
+
+// Calls on a slab, where the calls before did not fail. An `and_then` in place of this function was tried: its closure gets no proof.
+fn go_on<F: FnOnce(&mut Live<OwnStore>) -> Result<(), Fail>>(
+    before: Result<(), Fail>,
+    slab: &mut Live<OwnStore>,
+    calls: F,
+) -> Result<(), Fail>
+    requires { F.IsAlwaysCallable calls }
+{
+    before?;
+    calls(slab)
+}
+
+// The same as `on_fresh`, and then calls on the slab that its store loads to; the store is handed back.
+pub(crate) fn on_fresh_and_again<
+    F: FnOnce(&mut Live<OwnStore>) -> Result<(), Fail>,
+    G: FnOnce(&mut Live<OwnStore>) -> Result<(), Fail>,
+>(sectors: u64, before: F, after: G) -> Result<OwnStore, Fail>
+    requires before { F.IsAlwaysCallable before }
+    requires after { G.IsAlwaysCallable after }
+{
+    let mut slab = fresh(Size::new(sectors)?);
+    let first = before(&mut slab);
+    let mut slab = again(slab);
+    let done = go_on(first, &mut slab, after);
+    let store = slab.close();
+    done?;
+    Ok(store)
 }
 
 // What a slab tells of itself. Four numbers and no Figures, with which each of 32 calls takes ten lines in place of one.
@@ -90,14 +132,6 @@ pub(crate) fn next_is<S: LogStore>(
 // Of the sectors `first`, `first + 2`, `first + 4` and so on the one at a place, as an extent.
 fn tooth(first: u64, place: u64) -> Result<Extent, Refusal> {
     Extent::new(place.wrapping_mul(2).wrapping_add(first), 1)
-}
-
-// Logs that the first `n` teeth are taken.
-pub(crate) fn log_teeth(store: &mut OwnStore, first: u64, n: u64) -> Result<(), Fail> {
-    for place in 0..n {
-        add_extent(store, Effect::Allocates, tooth(first, place)?)?;
-    }
-    Ok(())
 }
 
 // Gives the first `n` teeth back.

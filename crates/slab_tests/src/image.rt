@@ -29,7 +29,7 @@ fn second_calls<S: LogStore>(rt: &impl Abort, slab: &mut Live<S>) -> Result<(), 
     next_is(rt, slab, 1, 40_000, 60_000)
 }
 
-// Two uses of a store: one function with the calls as a closure cannot be stated yet, as they are on a live slab.
+// Two uses of a store: one function that takes the calls as a closure, as `on_fresh`, was tried; over any store its bound cannot be stated yet.
 fn use_first<S: LogStore>(rt: &impl Abort, store: S, size: Size) -> (S, Result<(), Fail>) {
     let mut slab = Cold::open(store, size).load();
     let done = first_calls(rt, &mut slab);

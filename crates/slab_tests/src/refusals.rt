@@ -1,7 +1,7 @@
 // The refusals of a slab that runs; what is refused changes nothing.
-use crate::helpers::{figures, frees, fresh, grants, next_is, refuses_return, refuses_want};
+use crate::helpers::{figures, frees, grants, next_is, on_fresh, refuses_return, refuses_want};
 use disk_slab::Live;
-use slab_log::{Refusal, Size};
+use slab_log::Refusal;
 use std::process::Abort;
 use std::test::Fail;
 use store::OwnStore;
@@ -21,10 +21,7 @@ fn refuses_wants(rt: &impl Abort, slab: &mut Live<OwnStore>) -> Result<(), Fail>
 
 #[test]
 fn wants_of_none_or_too_many_sectors(rt: HostRuntime) -> Result<(), Fail> {
-    let mut slab = fresh(Size::new(100)?);
-    let done = refuses_wants(&rt, &mut slab);
-    let _ = slab.close();
-    done
+    on_fresh(100, |slab| refuses_wants(&rt, slab))
 }
 
 // 0 to 9 are in use.
@@ -44,10 +41,7 @@ fn refuses_returns(rt: &impl Abort, slab: &mut Live<OwnStore>) -> Result<(), Fai
 
 #[test]
 fn returns_beyond_the_slab_or_of_free_sectors(rt: HostRuntime) -> Result<(), Fail> {
-    let mut slab = fresh(Size::new(100)?);
-    let done = refuses_returns(&rt, &mut slab);
-    let _ = slab.close();
-    done
+    on_fresh(100, |slab| refuses_returns(&rt, slab))
 }
 
 // Two words for each turn.
@@ -86,8 +80,5 @@ fn refuses_without_places(rt: &impl Abort, slab: &mut Live<OwnStore>) -> Result<
 
 #[test]
 fn a_full_log_until_it_is_condensed(rt: HostRuntime) -> Result<(), Fail> {
-    let mut slab = fresh(Size::new(100_000)?);
-    let done = refuses_without_places(&rt, &mut slab);
-    let _ = slab.close();
-    done
+    on_fresh(100_000, |slab| refuses_without_places(&rt, slab))
 }

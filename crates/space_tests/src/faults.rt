@@ -1,8 +1,9 @@
 // Each fault of a log stops its replay at the place of the word that has it.
 use crate::helpers::{stop_at, stop_of};
+use samples::comb_of;
 use slab_log::{Effect, Extent, Fault, Size, Stop};
 use std::test::Fail;
-use store::{OwnStore, add_extent};
+use store::add_extent;
 
 // Allocates the sectors 50 to 59.
 const ALLOCATE: u64 = 0x0032_0009;
@@ -99,19 +100,11 @@ fn a_return_of_a_free_sector(rt: HostRuntime) -> Result<(), Fail> {
     Ok(())
 }
 
-// The log that takes the sectors 1, 3, .., 2,045: it leaves 1,024 free extents of 4,096 sectors.
-fn comb_log() -> Result<OwnStore, Fail> {
-    let mut store = OwnStore::new();
-    for i in 0..1_023u64 {
-        add_extent(&mut store, Effect::Allocates, Extent::new(2 * i + 1, 1)?)?;
-    }
-    Ok(store)
-}
-
 #[test]
 fn one_cut_too_many(rt: HostRuntime) -> Result<(), Fail> {
     let size = Size::new(4_096)?;
-    let mut store = comb_log()?;
+    // it leaves 1,024 free extents
+    let mut store = comb_of(1_023)?;
     assert_eq!(rt; stop_of(&store, size), None);
     add_extent(&mut store, Effect::Allocates, Extent::new(3_000, 1)?)?;
     add_extent(&mut store, Effect::Allocates, Extent::new(3_002, 1)?)?;
@@ -122,7 +115,7 @@ fn one_cut_too_many(rt: HostRuntime) -> Result<(), Fail> {
 #[test]
 fn one_lone_return_too_many(rt: HostRuntime) -> Result<(), Fail> {
     let size = Size::new(4_096)?;
-    let mut store = comb_log()?;
+    let mut store = comb_of(1_023)?;
     add_extent(&mut store, Effect::Allocates, Extent::new(2_046, 10)?)?;
     assert_eq!(rt; stop_of(&store, size), None);
     add_extent(&mut store, Effect::Frees, Extent::new(2_050, 1)?)?;

@@ -1,5 +1,5 @@
 // The header that formatting writes, and headers that break the rule.
-use crate::refusals::refusal_number;
+use slab_log::Refusal;
 use std::process::Abort;
 use std::test::Fail;
 use store::{Header, ImageStore, LogStore, check as check_header, format as format_area};
@@ -20,18 +20,14 @@ fn area_of(header: Header) -> [u8; BYTES] {
 fn refuses(rt: &impl Abort, header: Header) {
     let before = area_of(header);
     let mut area = before;
-    assert_eq!(rt; refusal_number(check_header(&area)), Some(11));
+    assert_eq!(rt; check_header(&area), Err(Refusal::BadHeader));
     let mut store = ImageStore::attach(&mut area);
-    let capacity = store.capacity();
-    let count = store.count();
-    let word = refusal_number(store.word(0));
-    let add = refusal_number(store.add(77));
+    assert_eq!(rt; store.capacity(), 0);
+    assert_eq!(rt; store.count(), 0);
+    assert_eq!(rt; store.word(0), Err(Refusal::NoWord));
+    assert_eq!(rt; store.add(77), Err(Refusal::StoreFull));
     store.empty();
     let _ = store.detach();
-    assert_eq!(rt; capacity, 0);
-    assert_eq!(rt; count, 0);
-    assert_eq!(rt; word, Some(10));
-    assert_eq!(rt; add, Some(9));
     assert!(rt; area[..] == before[..]);
 }
 
@@ -102,19 +98,17 @@ fn a_count_beyond_the_capacity_is_refused(rt: HostRuntime) {
 #[test]
 fn an_area_shorter_than_a_header_is_refused(rt: HostRuntime) {
     let mut area = [0u8; 15];
-    assert_eq!(rt; refusal_number(check_header(&area)), Some(11));
+    assert_eq!(rt; check_header(&area), Err(Refusal::BadHeader));
     let mut store = ImageStore::attach(&mut area);
-    let capacity = store.capacity();
-    let add = refusal_number(store.add(77));
+    assert_eq!(rt; store.capacity(), 0);
+    assert_eq!(rt; store.add(77), Err(Refusal::StoreFull));
     let _ = store.detach();
-    assert_eq!(rt; capacity, 0);
-    assert_eq!(rt; add, Some(9));
     assert!(rt; area[..] == [0u8; 15][..]);
 }
 
 // Formats an area of bytes that are all 7, and looks at its header and at the bytes behind it.
 fn formats(rt: &impl Abort, area: &mut [u8], capacity: u32) -> Result<(), Fail> {
-    assert_eq!(rt; refusal_number(format_area(area)), None);
+    assert_eq!(rt; format_area(area), Ok(()));
     let header = check_header(area)?;
     assert_eq!(rt; header.count, 0);
     assert_eq!(rt; header.capacity, capacity);
@@ -138,15 +132,15 @@ fn formatting_gives_the_places_that_fit(rt: HostRuntime) -> Result<(), Fail> {
 #[test]
 fn formatting_refuses_a_short_area(rt: HostRuntime) {
     let mut area = [7u8; 15];
-    assert_eq!(rt; refusal_number(format_area(&mut area[0..0])), Some(11));
-    assert_eq!(rt; refusal_number(format_area(&mut area)), Some(11));
+    assert_eq!(rt; format_area(&mut area[0..0]), Err(Refusal::BadHeader));
+    assert_eq!(rt; format_area(&mut area), Err(Refusal::BadHeader));
     assert!(rt; area[..] == [7u8; 15][..]);
 }
 
 #[test]
 fn formatting_caps_the_places(rt: HostRuntime) -> Result<(), Fail> {
     let mut area = vec![in rt.alloc(); 7u8; 8388632]?;
-    assert_eq!(rt; refusal_number(format_area(&mut area)), None);
+    assert_eq!(rt; format_area(&mut area), Ok(()));
     let header = check_header(&area)?;
     assert_eq!(rt; header.capacity, 1048576);
     assert_eq!(rt; header.end, 8388624);

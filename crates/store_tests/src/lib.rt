@@ -3,12 +3,12 @@
 
 mod client;
 #[cfg(test)]
+mod filling;
+#[cfg(test)]
 mod header_tests;
 #[cfg(test)]
 mod image_tests;
 #[cfg(test)]
 mod own_tests;
-#[cfg(test)]
-mod refusals;
 #[cfg(test)]
 mod words_tests;

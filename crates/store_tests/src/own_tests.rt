@@ -1,5 +1,6 @@
 // An own store up to its last place, and past it.
-use crate::refusals::refusal_number;
+use crate::filling::fill_and_read;
+use slab_log::Refusal;
 use std::test::Fail;
 use store::{LogStore, OwnStore, PLACES};
 
@@ -8,24 +9,12 @@ fn a_new_store_is_empty(rt: HostRuntime) {
     let store = OwnStore::new();
     assert_eq!(rt; store.count(), 0);
     assert_eq!(rt; store.capacity(), 4096);
-    assert_eq!(rt; refusal_number(store.word(0)), Some(10));
+    assert_eq!(rt; store.word(0), Err(Refusal::NoWord));
 }
 
 #[test]
 fn a_full_store_takes_no_word(rt: HostRuntime) -> Result<(), Fail> {
-    let mut store = OwnStore::new();
-    for i in 0..PLACES {
-        store.add(i as u64 * 3)?;
-    }
-    assert_eq!(rt; store.count(), PLACES);
-    assert_eq!(rt; refusal_number(store.add(7)), Some(9));
-    assert_eq!(rt; store.count(), PLACES);
-    // By index, since `word` is tested.
-    for i in 0..PLACES {
-        assert_eq!(rt; store.word(i)?, i as u64 * 3);
-    }
-    assert_eq!(rt; refusal_number(store.word(PLACES)), Some(10));
-    Ok(())
+    fill_and_read(&rt, &mut OwnStore::new(), PLACES, 3)
 }
 
 #[test]
@@ -35,9 +24,9 @@ fn an_emptied_store_takes_words_again(rt: HostRuntime) -> Result<(), Fail> {
     store.add(6)?;
     store.empty();
     assert_eq!(rt; store.count(), 0);
-    assert_eq!(rt; refusal_number(store.word(0)), Some(10));
+    assert_eq!(rt; store.word(0), Err(Refusal::NoWord));
     store.add(8)?;
-    assert_eq!(rt; store.word(0)?, 8);
-    assert_eq!(rt; refusal_number(store.word(1)), Some(10));
+    assert_eq!(rt; store.word(0), Ok(8));
+    assert_eq!(rt; store.word(1), Err(Refusal::NoWord));
     Ok(())
 }

@@ -10,15 +10,15 @@ fn ascending(rt: HostRuntime) {
     }
     assert!(rt; !table.insert(5000, 1));
     assert!(rt; !table.insert(3, 9));
-    assert_eq!(rt; table.len() as u64, 1024);
+    assert_eq!(rt; table.len(), 1024);
     assert_eq!(rt; key_of(table.last()), Some(1023));
-    assert_eq!(rt; table.get(3).unwrap_or(0), 4);
+    assert_eq!(rt; table.get(3), Some(4));
     for start in 0..1024 {
-        assert_eq!(rt; table.remove(start).unwrap_or(0), start + 1);
+        assert_eq!(rt; table.remove(start), Some(start + 1));
     }
-    assert_eq!(rt; table.len() as u64, 0);
-    assert!(rt; table.last().is_none());
-    assert!(rt; table.remove(3).is_none());
+    assert_eq!(rt; table.len(), 0);
+    assert_eq!(rt; table.last(), None);
+    assert_eq!(rt; table.remove(3), None);
 }
 
 #[test]
@@ -34,9 +34,9 @@ fn descending(rt: HostRuntime) {
     assert_eq!(rt; key_of(table.lowest_from(1024)), None);
     for start in (0..1024).rev() {
         assert_eq!(rt; key_of(table.last()), Some(start));
-        assert_eq!(rt; table.remove(start).unwrap_or(0), 7);
+        assert_eq!(rt; table.remove(start), Some(7));
     }
-    assert_eq!(rt; table.len() as u64, 0);
+    assert_eq!(rt; table.len(), 0);
     assert!(rt; table.insert(5000, 1));
 }
 
@@ -70,16 +70,16 @@ fn spans_in_order(rt: HostRuntime) {
             key_of(table.lowest_from(span_of(0))),
             Some(span_of(number))
         );
-        assert!(rt; table.remove(span_of(number)).is_some());
+        assert_eq!(rt; table.remove(span_of(number)), Some(()));
     }
-    assert_eq!(rt; table.len() as u64, 0);
+    assert_eq!(rt; table.len(), 0);
 }
 
 #[test]
 fn fewest_nodes(rt: HostRuntime) {
-    assert_eq!(rt; least_nodes(14).unwrap_or(0), 986);
-    assert_eq!(rt; least_nodes(15).unwrap_or(0), 1596);
-    assert!(rt; least_nodes(16).is_none());
+    assert_eq!(rt; least_nodes(14), Some(986));
+    assert_eq!(rt; least_nodes(15), Some(1596));
+    assert_eq!(rt; least_nodes(16), None);
 }
 
 // A record of two 64-bit numbers takes 24 bytes.

@@ -1,4 +1,4 @@
-// Tests of the tables, against an array that has the length at each start.
+// Tests of the tables, against an array that has the value at each start.
 #![tactic(auto)]
 
 #[cfg(test)]

@@ -1,4 +1,4 @@
-// What the tables are held to: for each of 2,048 starts its length, or 0 where it is not there.
+// What the tables are held to: for each of 2,048 starts the value that the table has for it.
 ghost use Rattle.std.specs.Prelude.{◌<◌};
 
 use table::{Entry, LengthKey};
@@ -20,20 +20,25 @@ pub(crate) fn span_of(start: usize) -> LengthKey {
     }
 }
 
+// How many starts are there.
+pub(crate) fn count<V>(model: &[Option<V>]) -> usize {
+    model.iter().flatten().count()
+}
+
 // The first start, not below a given one, that is there.
-pub(crate) fn first_from(lengths: &[u64], start: usize) -> Option<usize> {
-    lengths
+pub(crate) fn first_from<V>(model: &[Option<V>], start: usize) -> Option<usize> {
+    model
         .iter()
         .enumerate()
-        .position(|(i, len)| i >= start && *len != 0)
+        .position(|(i, value)| i >= start && value.is_some())
 }
 
 // The last start, below a given one, that is there.
-pub(crate) fn last_before(lengths: &[u64], start: usize) -> Option<usize> {
-    lengths
+pub(crate) fn last_before<V>(model: &[Option<V>], start: usize) -> Option<usize> {
+    model
         .iter()
         .enumerate()
-        .filter(|(i, len)| *i < start && **len != 0)
+        .filter(|(i, value)| *i < start && value.is_some())
         .last()
         .map(|(i, _)| i)
 }

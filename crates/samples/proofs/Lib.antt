@@ -1,0 +1,2 @@
+-- The lemmas that the proofs of this crate cite.
+pub mod Teeth
