@@ -7,3 +7,5 @@ mod filling;
 mod model;
 #[cfg(test)]
 mod random;
+#[cfg(test)]
+mod replacing;
