@@ -1,4 +1,5 @@
-// One free extent put into both tables of a space, or taken out of both.
+// One free extent put into both tables of a space, taken out of both, or exchanged for another. The key of a length is made of a run's
+// fields in place: through a conversion each proof would read it by that one's clause.
 ghost use Rattle.std.specs.Prelude.{◌≡◌, ◌+◌, ◌<◌, ◌≤◌, min, true, length};
 ghost use Rattle.slab_log.specs.Replay.{grant, give_back};
 ghost use Rattle.table.specs.Table.{pairs as starts};

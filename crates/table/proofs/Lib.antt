@@ -13,5 +13,5 @@ pub mod Unused
 pub mod Soundness
 pub mod Pairs
 pub mod Calls
-pub mod Seating
+pub mod Replaceable
 pub mod Replacing

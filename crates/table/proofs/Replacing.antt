@@ -12,7 +12,7 @@ use Rattle.table.specs.Pairs.{Each, pair, alike, has, without, put, same_side, R
 use Rattle.table.specs.Tree.{Item, Tree, leaf, node, none, ptr, tall, inorder, one, uses, cell, Rep, Avl}
 use Rattle.table.specs.Edit.{item, refilled}
 use Rattle.table.specs.Search.{Sorted, Under, Over}
-use Rattle.table.specs.Change.{Seat}
+use Rattle.table.specs.Change.{Replaceable}
 use Rattle.table.specs.Sound.{Holds, entry}
 use Rattle.table.proofs.Model.{nth_set_same, nth_set_other, one_at, same_some, uses_append, uses_node}
 use Rattle.table.proofs.Descending.{each_right}
@@ -20,16 +20,16 @@ use Rattle.table.proofs.Lists.{sorted_more, sorted_less}
 use Rattle.table.proofs.Unused.{chain_frame}
 use Rattle.table.proofs.Pairs.{one_way, put_between, key_present, pairs_each}
 use Rattle.table.proofs.Calls.{Reads, reads, pairs_cut}
-use Rattle.table.proofs.Seating.{alike_is}
+use Rattle.table.proofs.Replaceable.{alike_is}
 
 module _ {K V : Type 0} (x : Item K V) where
   -- the item itself, where another stands at its place
   abbrev pub pick : Item K V → Item K V
   pick y = cond (eqb y.at x.at) x y
 
-  abbrev pub retag : Tree K V → Tree K V
-  retag leaf = leaf
-  retag (node y l r) = node (pick y) (retag l) (retag r)
+  abbrev pub with_item : Tree K V → Tree K V
+  with_item leaf = leaf
+  with_item (node y l r) = node (pick y) (with_item l) (with_item r)
 
   pick_here : (y : Item K V) → y.at ≡ x.at → pick y ≡ x
   pick_here y e = cond-true (eqb y.at x.at) x y (eq-eqb y.at x.at e)
@@ -40,25 +40,25 @@ module _ {K V : Type 0} (x : Item K V) where
   pick_at : (y : Item K V) → (pick y).at ≡ y.at
   pick_at y = ⊎_elim (λ e. ap (λ (z : Item K V). z.at) (pick_here y e) ∙ sym e) (λ ne. ap (λ (z : Item K V). z.at) (pick_off y ne)) (cases_eq y.at x.at)
 
-  retag_ptr : (t : Tree K V) → ptr (retag t) ≡ ptr t
-  retag_ptr leaf = refl
-  retag_ptr (node y l r) = pick_at y
+  with_item_ptr : (t : Tree K V) → ptr (with_item t) ≡ ptr t
+  with_item_ptr leaf = refl
+  with_item_ptr (node y l r) = pick_at y
 
-  retag_tall : (t : Tree K V) → tall (retag t) ≡ tall t
-  retag_tall leaf = refl
-  retag_tall (node y l r) = λ i. max (retag_tall l i) (retag_tall r i) + 1
+  with_item_tall : (t : Tree K V) → tall (with_item t) ≡ tall t
+  with_item_tall leaf = refl
+  with_item_tall (node y l r) = λ i. max (with_item_tall l i) (with_item_tall r i) + 1
 
-  retag_avl : (t : Tree K V) → Avl t → Avl (retag t)
-  retag_avl leaf h = tt
-  retag_avl (node y l r) h = (rw (retag_tall l, retag_tall r) h.0, retag_avl l h.1, retag_avl r h.2)
+  with_item_avl : (t : Tree K V) → Avl t → Avl (with_item t)
+  with_item_avl leaf h = tt
+  with_item_avl (node y l r) h = (rw (with_item_tall l, with_item_tall r) h.0, with_item_avl l h.1, with_item_avl r h.2)
 
   map_append : (a b : List (Item K V)) → map pick (a ++ b) ≡ map pick a ++ map pick b
   map_append [] b = refl
   map_append (y ∷ a) b = ap (λ (q : List (Item K V)). pick y ∷ q) (map_append a b)
 
-  retag_order : (t : Tree K V) → inorder (retag t) ≡ map pick (inorder t)
-  retag_order leaf = refl
-  retag_order (node y l r) = (λ i. retag_order l i ++ pick y ∷ retag_order r i) ∙ sym (map_append (inorder l) (y ∷ inorder r))
+  with_item_order : (t : Tree K V) → inorder (with_item t) ≡ map pick (inorder t)
+  with_item_order leaf = refl
+  with_item_order (node y l r) = (λ i. with_item_order l i ++ pick y ∷ with_item_order r i) ∙ sym (map_append (inorder l) (y ∷ inorder r))
 
   map_off : (a : List (Item K V)) → uses x.at a ≡ 0 → map pick a ≡ a
   map_off [] off = refl
@@ -67,40 +67,40 @@ module _ {K V : Type 0} (x : Item K V) where
       λ i. pick_off y ne i ∷ map_off a (omega arith) i
 
   -- the records hold the same tree with the item
-  retag_rep : (xs : List (Node K V)) (n : Node K V) → slice_get xs x.at ≡ Some n → (t : Tree K V) → Rep xs t → Rep (set xs x.at (refilled x.key x.value n)) (retag t)
-  retag_rep xs n read leaf h = tt
-  retag_rep xs n read (node y l r) h = (
+  with_item_rep : (xs : List (Node K V)) (n : Node K V) → slice_get xs x.at ≡ Some n → (t : Tree K V) → Rep xs t → Rep (set xs x.at (refilled x.key x.value n)) (with_item t)
+  with_item_rep xs n read leaf h = tt
+  with_item_rep xs n read (node y l r) h = (
     rw (pick_at y) h.0,
     ⊎_elim here other (cases_eq y.at x.at),
-    retag_rep xs n read l h.2,
-    retag_rep xs n read r h.3,
+    with_item_rep xs n read l h.2,
+    with_item_rep xs n read r h.3,
   )
     where
       m : Node K V
       m = refilled x.key x.value n
 
-      here : y.at ≡ x.at → slice_get (set xs x.at m) (pick y).at ≡ Some (cell (pick y) (retag l) (retag r))
+      here : y.at ≡ x.at → slice_get (set xs x.at m) (pick y).at ≡ Some (cell (pick y) (with_item l) (with_item r))
       here e =
           let was : n ≡ cell y l r = same_some n (cell y l r) (sym read ∙ ap (slice_get xs) (sym e) ∙ h.1) in
-          let is : m ≡ cell x (retag l) (retag r) =
+          let is : m ≡ cell x (with_item l) (with_item r) =
           (λ i. refilled x.key x.value (was i)) ∙ (λ i. record {
             key = x.key;
             value = x.value;
-            links = record { left = sym (retag_ptr l) i; right = sym (retag_ptr r) i };
-            height = max (sym (retag_tall l) i) (sym (retag_tall r) i) + 1;
+            links = record { left = sym (with_item_ptr l) i; right = sym (with_item_ptr r) i };
+            height = max (sym (with_item_tall l) i) (sym (with_item_tall r) i) + 1;
           }) in
-          ap (slice_get (set xs x.at m)) (pick_at y ∙ e) ∙ nth_set_same xs x.at m (slice_get_within xs x.at n read) ∙ ap Some is ∙ (λ i. Some (cell (sym (pick_here y e) i) (retag l) (retag r)))
+          ap (slice_get (set xs x.at m)) (pick_at y ∙ e) ∙ nth_set_same xs x.at m (slice_get_within xs x.at n read) ∙ ap Some is ∙ (λ i. Some (cell (sym (pick_here y e) i) (with_item l) (with_item r)))
 
-      other : (y.at ≡ x.at → ⊥) → slice_get (set xs x.at m) (pick y).at ≡ Some (cell (pick y) (retag l) (retag r))
+      other : (y.at ≡ x.at → ⊥) → slice_get (set xs x.at m) (pick y).at ≡ Some (cell (pick y) (with_item l) (with_item r))
       other ne =
-          let is : cell y l r ≡ cell y (retag l) (retag r) =
+          let is : cell y l r ≡ cell y (with_item l) (with_item r) =
           λ i. record {
             key = y.key;
             value = y.value;
-            links = record { left = sym (retag_ptr l) i; right = sym (retag_ptr r) i };
-            height = max (sym (retag_tall l) i) (sym (retag_tall r) i) + 1;
+            links = record { left = sym (with_item_ptr l) i; right = sym (with_item_ptr r) i };
+            height = max (sym (with_item_tall l) i) (sym (with_item_tall r) i) + 1;
           } in
-          ap (slice_get (set xs x.at m)) (pick_at y) ∙ nth_set_other xs x.at y.at m ne ∙ h.1 ∙ ap Some is ∙ (λ i. Some (cell (sym (pick_off y ne) i) (retag l) (retag r)))
+          ap (slice_get (set xs x.at m)) (pick_at y) ∙ nth_set_other xs x.at y.at m ne ∙ h.1 ∙ ap Some is ∙ (λ i. Some (cell (sym (pick_off y ne) i) (with_item l) (with_item r)))
 
 module _ {K V : Type 0} (before : K → K → Bool) (o : Order before) (key new : K) where
   -- in the list each other key lies on the same side of both keys
@@ -125,10 +125,10 @@ module _ {K V : Type 0} (before : K → K → Bool) (o : Order before) (key new 
       both : (p q r t : Bool) → p ≡ false → q ≡ false → t ≡ true → (((not p && not q) || r) && t) ≡ true
       both p q r t e f g = grind rules
 
-  -- so the pairs, where the key has a seat
-  module _ (items : List (Item K V)) (at : ℕ) (s : Seat before key new at items) (value : V) where
-    pub seated : Replaces before (map entry items) (map entry (s.present.a ++ item at new value ∷ s.present.b)) key (pair new value) true
-    seated =
+  -- so the pairs, where the key has such a node
+  module _ (items : List (Item K V)) (at : ℕ) (s : Replaceable before key new at items) (value : V) where
+    pub pairs_replaced : Replaces before (map entry items) (map entry (s.present.a ++ item at new value ∷ s.present.b)) key (pair new value) true
+    pairs_replaced =
         let p = s.present in
         let ea = pairs_each (Under before key) p.a p.early in
         let la = pairs_each (Over before key) p.b p.late in
@@ -147,7 +147,7 @@ module _ {K V : Type 0} (before : K → K → Bool) (o : Order before) (key new 
         both : (p q : Bool) → p ≡ true → q ≡ true → (p && q) ≡ true
         both p q e f = grind rules
 
-  -- the list has a seat where the key is there and each other lies on the same side
+  -- the list has one where the key is there and each other lies on the same side
   apart_late : (b : List (Item K V)) → Each (λ (y : Item K V). Over before key y.key) b → same_side before key new (map entry b) ≡ true → Each (λ (y : Item K V). Over before new y.key) b
   apart_late [] h e = tt
   apart_late (y ∷ b) h e =
@@ -157,9 +157,9 @@ module _ {K V : Type 0} (before : K → K → Bool) (o : Order before) (key new 
       both : (p q r s t : Bool) → p ≡ true → q ≡ false → (((not p && not q) || cond q r s) && t) ≡ true → (s ≡ true) × (t ≡ true)
       both p q r s t e f g = (grind rules, grind rules)
 
-  seat_of : (items : List (Item K V)) → Sorted before items → has before key (map entry items) ≡ true → same_side before key new (map entry items) ≡ true → (at : ℕ) × Seat before key new at items
-  seat_of [] sorted there side = absurd (both_ways false refl there)
-  seat_of (y ∷ ys) sorted there side = go (alike before key y.key) refl (λ found. seat_of ys sorted.1 found rest)
+  replaceable_in : (items : List (Item K V)) → Sorted before items → has before key (map entry items) ≡ true → same_side before key new (map entry items) ≡ true → (at : ℕ) × Replaceable before key new at items
+  replaceable_in [] sorted there side = absurd (both_ways false refl there)
+  replaceable_in (y ∷ ys) sorted there side = go (alike before key y.key) refl (λ found. replaceable_in ys sorted.1 found rest)
     where
       tail : (p r t : Bool) → ((p || r) && t) ≡ true → t ≡ true
       tail p r t e = grind rules
@@ -173,7 +173,7 @@ module _ {K V : Type 0} (before : K → K → Bool) (o : Order before) (key new 
       first : (p q r s t : Bool) → p ≡ false → q ≡ true → ((p || cond q r s) && t) ≡ true → r ≡ true
       first p q r s t e f g = grind rules
 
-      go : (v : Bool) → alike before key y.key ≡ v → (has before key (map entry ys) ≡ true → (at : ℕ) × Seat before key new at ys) → (at : ℕ) × Seat before key new at (y ∷ ys)
+      go : (v : Bool) → alike before key y.key ≡ v → (has before key (map entry ys) ≡ true → (at : ℕ) × Replaceable before key new at ys) → (at : ℕ) × Replaceable before key new at (y ∷ ys)
       go true e ih =
           let keyed : y.key ≡ key = sym (alike_is before o key y.key e) in
           let late : Each (λ (z : Item K V). Over before key z.key) ys = subst (λ (k : K). Each (λ (z : Item K V). Over before k z.key) ys) keyed sorted.0 in (
@@ -203,17 +203,17 @@ module _ {K V : Type 0} (before : K → K → Bool) (o : Order before) (key new 
           at_x (z ∷ a) x b h = at_x a x b h.1
 
   -- and where it has none, the pairs stay
-  pub unseated : (items : List (Item K V)) → Sorted before items → (value : V) → ((at : ℕ) → Seat before key new at items → ⊥) →
+  pub pairs_kept : (items : List (Item K V)) → Sorted before items → (value : V) → ((at : ℕ) → Replaceable before key new at items → ⊥) →
       Replaces before (map entry items) (map entry items) key (pair new value) false
-  unseated items sorted value none = record { takes = go (has before key (map entry items)) (same_side before key new (map entry items)) refl refl; leaves = refl }
+  pairs_kept items sorted value none = record { takes = go (has before key (map entry items)) (same_side before key new (map entry items)) refl refl; leaves = refl }
     where
       go : (p q : Bool) → has before key (map entry items) ≡ p → same_side before key new (map entry items) ≡ q → false ≡ (has before key (map entry items) && same_side before key new (map entry items))
-      go true true e f = let s = seat_of items sorted e f in absurd (none s.0 s.1)
+      go true true e f = let s = replaceable_in items sorted e f in absurd (none s.0 s.1)
       go true false e f = grind rules
       go false q e f = grind rules
 
-  -- the records with another key and value at the seat
-  module _ {xs : List (Node K V)} {heads : Heads} {t : Tree K V} {us : List (Item K V)} (h : Holds before xs heads t us) (at : ℕ) (s : Seat before key new at (inorder t)) (value : V) where
+  -- the records with another key and value there
+  module _ {xs : List (Node K V)} {heads : Heads} {t : Tree K V} {us : List (Item K V)} (h : Holds before xs heads t us) (at : ℕ) (s : Replaceable before key new at (inorder t)) (value : V) where
     abbrev pub x : Item K V
     x = item at new value
 
@@ -223,7 +223,7 @@ module _ {K V : Type 0} (before : K → K → Bool) (o : Order before) (key new 
     same_uses : (j : ℕ) → uses j (s.present.a ++ x ∷ s.present.b) ≡ uses j (inorder t)
     same_uses j = omega (arith, uses_node j x s.present.a s.present.b, uses_node j s.present.x s.present.a s.present.b, ap (uses j) s.present.parts, ap (one j) place)
 
-    order : inorder (retag x t) ≡ s.present.a ++ x ∷ s.present.b
+    order : inorder (with_item x t) ≡ s.present.a ++ x ∷ s.present.b
     order =
         let p = s.present in
         let count : uses at (inorder t) ≡ uses at p.a + (one at p.x.at + uses at p.b) = ap (uses at) p.parts ∙ uses_node at p.x p.a p.b in
@@ -231,10 +231,10 @@ module _ {K V : Type 0} (before : K → K → Bool) (o : Order before) (key new 
         let once = h.whole.once at in
         let off-a : uses at p.a ≡ 0 = omega (arith, count, here, once) in
         let off-b : uses at p.b ≡ 0 = omega (arith, count, here, once) in
-        retag_order x t ∙ ap (map (pick x)) p.parts ∙ map_append x p.a (p.x ∷ p.b) ∙ (λ i. map_off x p.a off-a i ++ pick_here x p.x (sym place) i ∷ map_off x p.b off-b i)
+        with_item_order x t ∙ ap (map (pick x)) p.parts ∙ map_append x p.a (p.x ∷ p.b) ∙ (λ i. map_off x p.a off-a i ++ pick_here x p.x (sym place) i ∷ map_off x p.b off-b i)
 
-    pub reseated_within : at < length xs
-    reseated_within =
+    pub place_within : at < length xs
+    place_within =
         let p = s.present in
         let all : Each (Reads xs) (p.a ++ p.x ∷ p.b) = subst (Each (Reads xs)) p.parts (reads xs t h.whole.stands.held) in
         rw place (each_right (Reads xs) p.a (p.x ∷ p.b) all).0.within
@@ -246,32 +246,32 @@ module _ {K V : Type 0} (before : K → K → Bool) (o : Order before) (key new 
 
     apart : (j : ℕ) → 1 ≤ uses j us → j ≡ at → ⊥
     apart j m e =
-        let low : at < 1024 = omega (arith, reseated_within, h.size) in
+        let low : at < 1024 = omega (arith, place_within, h.size) in
         let on : 1 ≤ uses at us = subst (λ (i : ℕ). 1 ≤ uses i us) e m in
         omega (arith, on, h.shared at low, uses_append at (inorder t) us, here_once)
 
-    placed : (n : Node K V) → slice_get xs at ≡ Some n → Holds before (set xs at (refilled new value n)) heads (retag x t) us
+    placed : (n : Node K V) → slice_get xs at ≡ Some n → Holds before (set xs at (refilled new value n)) heads (with_item x t) us
     placed n read =
         let p = s.present in
         let ys : List (Node K V) = set xs at (refilled new value n) in
-        let uses-are : (j : ℕ) → uses j (inorder (retag x t)) ≡ uses j (inorder t) = λ j. ap (uses j) order ∙ same_uses j in
+        let uses-are : (j : ℕ) → uses j (inorder (with_item x t)) ≡ uses j (inorder t) = λ j. ap (uses j) order ∙ same_uses j in
         record {
           size = length-set xs at _ ∙ h.size;
           whole = record {
-            stands = record { held = retag_rep x xs n read t h.whole.stands.held; root = h.whole.stands.root ∙ sym (retag_ptr x t) };
-            avl = retag_avl x t h.whole.avl;
+            stands = record { held = with_item_rep x xs n read t h.whole.stands.held; root = h.whole.stands.root ∙ sym (with_item_ptr x t) };
+            avl = with_item_avl x t h.whole.avl;
             once = λ j. omega (arith, uses-are j, h.whole.once j);
             sorted = subst (Sorted before) (sym order) (sorted_more before p.a x p.b (sorted_less before p.a p.x p.b (subst (Sorted before) p.parts h.whole.sorted)) s.early s.late);
           };
           chained = chain_frame xs ys us (λ j m. nth_set_other xs at j _ (apart j m)) h.chained;
           begins = h.begins;
-          shared = λ j low. omega (arith, uses_append j (inorder (retag x t)) us, uses_append j (inorder t) us, uses-are j, h.shared j low);
+          shared = λ j low. omega (arith, uses_append j (inorder (with_item x t)) us, uses_append j (inorder t) us, uses-are j, h.shared j low);
           count = h.count ∙ (omega (arith, ap length order, ap length p.parts, length-append p.a (x ∷ p.b), length-append p.a (p.x ∷ p.b)));
         }
 
-    pub reseated : (n : Node K V) → slice_get xs at ≡ Some n → (ys : List (Node K V)) → ys ≡ set xs at (refilled new value n) → Holds before ys heads (retag x t) us
-    reseated n read ys is = subst (λ (zs : List (Node K V)). Holds before zs heads (retag x t) us) (sym is) (placed n read)
+    pub records_exchanged : (n : Node K V) → slice_get xs at ≡ Some n → (ys : List (Node K V)) → ys ≡ set xs at (refilled new value n) → Holds before ys heads (with_item x t) us
+    records_exchanged n read ys is = subst (λ (zs : List (Node K V)). Holds before zs heads (with_item x t) us) (sym is) (placed n read)
 
     -- its pairs
-    pub reseated_pairs : Replaces before (map entry (inorder t)) (map entry (inorder (retag x t))) key (pair new value) true
-    reseated_pairs = rw order (seated (inorder t) at s value)
+    pub pairs_exchanged : Replaces before (map entry (inorder t)) (map entry (inorder (with_item x t))) key (pair new value) true
+    pairs_exchanged = rw order (pairs_replaced (inorder t) at s value)

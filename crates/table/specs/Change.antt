@@ -34,12 +34,12 @@ Removes before xs ys key t None = Absent before key (inorder t) × (ys ≡ xs)
 Removes before xs ys key t (Some r) = (p : Present before key r.at (inorder t)) × Became before xs ys r.rest (p.a ++ p.b)
 
 -- the item at a place has the key, and each other item lies on the same side of that key and of another
-pub record Seat {K V : Type 0} (before : K → K → Bool) (key new : K) (at : ℕ) (items : List (Item K V)) : Type 0 where
+pub record Replaceable {K V : Type 0} (before : K → K → Bool) (key new : K) (at : ℕ) (items : List (Item K V)) : Type 0 where
   pub present : Present before key at items
   pub early : Each (λ (y : Item K V). Under before new y.key) present.a
   pub late : Each (λ (y : Item K V). Over before new y.key) present.b
 
 -- the same, or nothing where no item does
-abbrev pub Seats : {K V : Type 0} → (K → K → Bool) → K → K → List (Item K V) → Option ℕ → Type 0
-Seats before key new items (Some at) = Seat before key new at items
-Seats before key new items None = (at : ℕ) → Seat before key new at items → ⊥
+abbrev pub FindsReplaceable : {K V : Type 0} → (K → K → Bool) → K → K → List (Item K V) → Option ℕ → Type 0
+FindsReplaceable before key new items (Some at) = Replaceable before key new at items
+FindsReplaceable before key new items None = (at : ℕ) → Replaceable before key new at items → ⊥

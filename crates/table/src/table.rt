@@ -9,7 +9,7 @@ use crate::side::Links;
 use crate::tree::balance::read;
 use crate::tree::edit;
 use crate::tree::find::{around, right_end};
-use crate::tree::seat::{refill, seat};
+use crate::tree::replace::{refill, replaceable};
 
 // The table of starts: for each start a length.
 pub type StartTable = Table<u64, u64>;
@@ -106,7 +106,7 @@ impl<K: Key, V: Copy> Table<K, V> {
     pub fn replace(&mut self, key: K, new: K, value: V) -> bool
         ensures { Replaces K.before (pairs self.old) (pairs self.new) key (pair new value) result }
     {
-        let Some(at) = seat(&self.nodes, self.heads.root, key, new) else {
+        let Some(at) = replaceable(&self.nodes, self.heads.root, key, new) else {
             return false;
         };
         refill(&mut self.nodes, at, new, value);

@@ -4,4 +4,4 @@ pub(crate) mod balance;
 pub(crate) mod edit;
 pub(crate) mod find;
 pub(crate) mod path;
-pub(crate) mod seat;
+pub(crate) mod replace;

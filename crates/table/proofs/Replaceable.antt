@@ -11,7 +11,7 @@ use Rattle.table.specs.Order.{Order}
 use Rattle.table.specs.Pairs.{Each, alike}
 use Rattle.table.specs.Tree.{Item, Tree, none, inorder}
 use Rattle.table.specs.Search.{Sorted, Whole, Under, Over}
-use Rattle.table.specs.Change.{Seat, Seats}
+use Rattle.table.specs.Change.{Replaceable, FindsReplaceable}
 use Rattle.table.specs.Parts.{front_at, final, NotUnder, Parted}
 use Rattle.table.proofs.Model.{nth_some}
 use Rattle.table.proofs.Descending.{each_append, each_left, each_right, each_map, cut}
@@ -108,7 +108,7 @@ module _ {K V : Type 0} (before : K → K → Bool) (o : Order before) where
 
       -- the new key lies behind the other: the other is the last before it
       module _ (behind : before key new ≡ true) where
-        cut_behind : (at : ℕ) (s : Seat before key new at (inorder t)) → (s.present.a ++ s.present.x ∷ [] ≡ q.a) × (s.present.b ≡ q.b)
+        cut_behind : (at : ℕ) (s : Replaceable before key new at (inorder t)) → (s.present.a ++ s.present.x ∷ [] ≡ q.a) × (s.present.b ≡ q.b)
         cut_behind at s =
             let p = s.present in
             let group : (p.a ++ p.x ∷ []) ++ p.b ≡ p.a ++ p.x ∷ p.b = simp append_assoc in
@@ -116,27 +116,27 @@ module _ {K V : Type 0} (before : K → K → Bool) (o : Order before) where
             (each_append _ p.a (p.x ∷ []) s.early (ap (λ (k : K). before k new) p.keyed ∙ behind, tt)) q.early
             (each_map _ _ p.b (λ y h. one_way before o new y.key h) s.late) q.late
 
-        none_follows : MatchOption (slice_get xs past) (false ≡ true) (λ n. false ≡ before new n.key) → (at : ℕ) → Seat before key new at (inorder t) → ⊥
+        none_follows : MatchOption (slice_get xs past) (false ≡ true) (λ n. false ≡ before new n.key) → (at : ℕ) → Replaceable before key new at (inorder t) → ⊥
         none_follows m at s =
             comes_not q.b (each_right (Reads xs) q.a q.b all) (subst (λ (i : ℕ). MatchOption (slice_get xs i) (false ≡ true) (λ n. false ≡ before new n.key)) q.past_is m)
             (subst (Each (λ (x : Item K V). Over before new x.key)) (cut_behind at s).1 s.late)
 
-        not_last : MatchOption (slice_get xs below) (false ≡ false) (λ n. false ≡ alike before key n.key) → (at : ℕ) → Seat before key new at (inorder t) → ⊥
+        not_last : MatchOption (slice_get xs below) (false ≡ false) (λ n. false ≡ alike before key n.key) → (at : ℕ) → Replaceable before key new at (inorder t) → ⊥
         not_last m at s =
             let p = s.present in
             let place : below ≡ p.x.at = q.below_is ∙ ap final (sym (cut_behind at s).0) ∙ final_end p.a p.x in
             key_not p.x (each_right (Reads xs) p.a (p.x ∷ p.b) (subst (Each (Reads xs)) p.parts (reads xs t w.stands.held))).0
             (subst (λ (i : ℕ). MatchOption (slice_get xs i) (false ≡ false) (λ n. false ≡ alike before key n.key)) place m) p.keyed
 
-        last_seat : MatchOption (slice_get xs past) (true ≡ true) (λ n. true ≡ before new n.key) → MatchOption (slice_get xs below) (true ≡ false) (λ n. true ≡ alike before key n.key) → Seat before key new below (inorder t)
-        last_seat after m = go (last_cut q.a)
+        last_replaceable : MatchOption (slice_get xs past) (true ≡ true) (λ n. true ≡ before new n.key) → MatchOption (slice_get xs below) (true ≡ false) (λ n. true ≡ alike before key n.key) → Replaceable before key new below (inorder t)
+        last_replaceable after m = go (last_cut q.a)
           where
             late : Each (λ (x : Item K V). Over before new x.key) q.b
             late =
                 let rest : Sorted before q.b = sorted_right q.a q.b sorted in
                 comes_is q.b (each_right (Reads xs) q.a q.b all) rest (subst (λ (i : ℕ). MatchOption (slice_get xs i) (true ≡ true) (λ n. true ≡ before new n.key)) q.past_is after)
 
-            go : (q.a ≡ []) ⊎ ((b : List (Item K V)) × (x : Item K V) × (q.a ≡ b ++ x ∷ [])) → Seat before key new below (inorder t)
+            go : (q.a ≡ []) ⊎ ((b : List (Item K V)) × (x : Item K V) × (q.a ≡ b ++ x ∷ [])) → Replaceable before key new below (inorder t)
             go (inl empty) =
                 absurd (both_ways true ((at_none _ _ (subst (λ (i : ℕ). MatchOption (slice_get xs i) (true ≡ false) (λ n. true ≡ alike before key n.key)) (q.below_is ∙ ap final empty) m))) refl)
             go (inr k) =
@@ -163,29 +163,29 @@ module _ {K V : Type 0} (before : K → K → Bool) (o : Order before) where
                   late = late;
                 }
 
-        pub seats_behind : (h f : Bool) → MatchOption (slice_get xs below) (h ≡ false) (λ n. h ≡ alike before key n.key) → MatchOption (slice_get xs past) (f ≡ true) (λ n. f ≡ before new n.key) →
-            Seats before key new (inorder t) (then_some (h && f) below)
-        seats_behind true true m after = last_seat after m
-        seats_behind true false m after = none_follows after
-        seats_behind false f m after = not_last m
+        pub found_behind : (h f : Bool) → MatchOption (slice_get xs below) (h ≡ false) (λ n. h ≡ alike before key n.key) → MatchOption (slice_get xs past) (f ≡ true) (λ n. f ≡ before new n.key) →
+            FindsReplaceable before key new (inorder t) (then_some (h && f) below)
+        found_behind true true m after = last_replaceable after m
+        found_behind true false m after = none_follows after
+        found_behind false f m after = not_last m
 
       -- the new key is the other, or lies before it: the other is the first that does not come before it
       module _ (ahead : before key new ≡ false) where
-        cut_ahead : (at : ℕ) (s : Seat before key new at (inorder t)) → (s.present.a ≡ q.a) × (s.present.x ∷ s.present.b ≡ q.b)
+        cut_ahead : (at : ℕ) (s : Replaceable before key new at (inorder t)) → (s.present.a ≡ q.a) × (s.present.x ∷ s.present.b ≡ q.b)
         cut_ahead at s =
             let p = s.present in
             cut_same new p.a (p.x ∷ p.b) q.a q.b (sym p.parts ∙ q.parts) s.early q.early
             (ap (λ (k : K). before k new) p.keyed ∙ ahead, each_map _ _ p.b (λ y h. one_way before o new y.key h) s.late) q.late
 
-        not_first : MatchOption (slice_get xs past) (false ≡ false) (λ n. false ≡ alike before key n.key) → (at : ℕ) → Seat before key new at (inorder t) → ⊥
+        not_first : MatchOption (slice_get xs past) (false ≡ false) (λ n. false ≡ alike before key n.key) → (at : ℕ) → Replaceable before key new at (inorder t) → ⊥
         not_first m at s =
             let p = s.present in
             let place : past ≡ p.x.at = q.past_is ∙ ap front_at (sym (cut_ahead at s).1) in
             key_not p.x (each_right (Reads xs) p.a (p.x ∷ p.b) (subst (Each (Reads xs)) p.parts (reads xs t w.stands.held))).0
             (subst (λ (i : ℕ). MatchOption (slice_get xs i) (false ≡ false) (λ n. false ≡ alike before key n.key)) place m) p.keyed
 
-        first_seat : MatchOption (slice_get xs past) (true ≡ false) (λ n. true ≡ alike before key n.key) → Seat before key new past (inorder t)
-        first_seat m = go q.b refl
+        first_replaceable : MatchOption (slice_get xs past) (true ≡ false) (λ n. true ≡ alike before key n.key) → Replaceable before key new past (inorder t)
+        first_replaceable m = go q.b refl
           where
             over : (y : K) → before key y ≡ true → before new y ≡ true
             over y h = side (before new key) refl
@@ -194,7 +194,7 @@ module _ {K V : Type 0} (before : K → K → Bool) (o : Order before) where
                 side true e = o.transitive new key y e h
                 side false e = ap (λ (z : K). before z y) (o.total new key e ahead) ∙ h
 
-            go : (b : List (Item K V)) → q.b ≡ b → Seat before key new past (inorder t)
+            go : (b : List (Item K V)) → q.b ≡ b → Replaceable before key new past (inorder t)
             go [] empty =
                 absurd (both_ways true ((at_none _ _ (subst (λ (i : ℕ). MatchOption (slice_get xs i) (true ≡ false) (λ n. true ≡ alike before key n.key)) (q.past_is ∙ ap front_at empty) m))) refl)
             go (x ∷ b) is =
@@ -219,6 +219,6 @@ module _ {K V : Type 0} (before : K → K → Bool) (o : Order before) where
                   late = each_map _ _ b (λ y h. over y.key h) above;
                 }
 
-        pub seats_ahead : (h : Bool) → MatchOption (slice_get xs past) (h ≡ false) (λ n. h ≡ alike before key n.key) → Seats before key new (inorder t) (then_some h past)
-        seats_ahead true m = first_seat m
-        seats_ahead false m = not_first m
+        pub found_ahead : (h : Bool) → MatchOption (slice_get xs past) (h ≡ false) (λ n. h ≡ alike before key n.key) → FindsReplaceable before key new (inorder t) (then_some h past)
+        found_ahead true m = first_replaceable m
+        found_ahead false m = not_first m

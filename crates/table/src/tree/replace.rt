@@ -4,7 +4,7 @@ ghost use Rattle.std.specs.List.{slice_get};
 ghost use Rattle.table.specs.Pairs.{alike};
 ghost use Rattle.table.specs.Tree.{Tree, inorder};
 ghost use Rattle.table.specs.Search.{Whole};
-ghost use Rattle.table.specs.Change.{Seats};
+ghost use Rattle.table.specs.Change.{FindsReplaceable};
 ghost use Rattle.table.specs.Edit.{refilled};
 
 use super::balance::read;
@@ -29,10 +29,15 @@ fn comes_before<K: Key, V: Copy>(nodes: &[Node<K, V>], key: K, link: u16) -> boo
 }
 
 // The place of the node of a key, where each other key lies on the same side of it and of a new one.
-pub(crate) fn seat<K: Key, V: Copy>(nodes: &[Node<K, V>], root: u16, key: K, new: K) -> Option<u16>
+pub(crate) fn replaceable<K: Key, V: Copy>(
+    nodes: &[Node<K, V>],
+    root: u16,
+    key: K,
+    new: K,
+) -> Option<u16>
     requires tree { (t : Tree K V) × Whole K.before nodes.now root t }
     requires short { length nodes.now ≤ 1024 }
-    ensures { (t : Tree K V) → Whole K.before nodes.now root t → Seats K.before key new (inorder t) result }
+    ensures { (t : Tree K V) → Whole K.before nodes.now root t → FindsReplaceable K.before key new (inorder t) result }
 {
     let sides = around(nodes, root, new);
     if key.precedes(new) {
