@@ -14,7 +14,7 @@ pub enum Command {
     Sample(String),
 }
 
-// The number that an argument says.
+// The number that an argument says. A function and no `FromStr`: the error names the argument.
 fn number(argument: &'static str, text: &str) -> Result<u64, Failure> {
     text.parse().map_err(|_| Failure::BadNumber(argument))
 }

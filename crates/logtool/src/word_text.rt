@@ -2,7 +2,7 @@
 use slab_log::{DebugWord, Entry};
 use std::fmt;
 
-// What the word says, and the word itself in hexadecimal.
+// What the word says, and the word itself in hexadecimal. A `Display` by hand, and no derive: its text depends on what the word says.
 #[derive(Clone, Copy)]
 pub struct WordText(pub u64);
 

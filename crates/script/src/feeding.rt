@@ -13,7 +13,7 @@ use store::LogStore;
 // A clause holds for each line of which the feed keeps these bytes: what is behind the 65th is not there, so no model of a feed gives
 // the line.
 impl Feed {
-    // No byte has been read.
+    // No byte has been read. `OwnStore::new` reads alike, but makes another type: they have an empty vector in common, and no more.
     pub fn new() -> Feed
         ensures { result.line.items ≡ [] }
     {

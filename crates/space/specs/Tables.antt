@@ -9,7 +9,7 @@ use Rattle.space.specs.declared.run.SectorRun.{SectorRun}
 use Rattle.space.specs.declared.search.Edges.{Edges}
 use Rattle.space.specs.declared.space.Space.{Space}
 
--- one free extent more has a place
+-- One free extent more has a place. No type holds it: a space may have as many as there can be.
 abbrev pub HasPlace : Space → Type 0
 HasPlace space = length (pairs space.by_start) < 1024
 

@@ -33,7 +33,8 @@ pub(crate) fn word_of(area: &[u8], i: usize) -> Result<u64, Refusal>
     Ok(u64::from_le_bytes(word))
 }
 
-// The first step of an addition: the word's bytes. The image still has the words that it had.
+// The first step of an addition: the word's bytes. The image still has the words that it had. This and the next are one line each, of
+// other widths and with other clauses: the word is not seen yet, and the count makes it seen.
 fn write_word(area: &mut [u8], place: usize, w: u64)
     requires { place + 8 ≤ length area.old }
     ensures word { le64 area.new place ≡ w }

@@ -17,7 +17,7 @@ pub struct OwnStore {
 }
 
 impl OwnStore {
-    // A store with no words.
+    // A store with no words. `Feed::new` of the script reads alike, but makes another type: they have an empty vector in common, and no more.
     pub fn new() -> OwnStore
         ensures { result.words.items ≡ [] }
     {

@@ -9,7 +9,8 @@ use crate::node::{NONE, Node};
 use crate::side::Links;
 use crate::tree::balance::read;
 
-// Puts a record in front of the chain that begins at `next`.
+// Puts a record in front of the chain that begins at `next`. That its place is within the slice is owed as a number, as by all functions
+// of a tree.
 pub(crate) fn give_back<K: Copy, V: Copy>(nodes: &mut [Node<K, V>], next: u16, at: u16)
     requires { at < length nodes.old }
     ensures { (n : Node K V) → slice_get nodes.old at ≡ Some n → nodes.new ≡ slice_set nodes.old at (spare n.key n.value next) }

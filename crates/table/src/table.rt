@@ -20,6 +20,7 @@ pub type LengthTable = Table<LengthKey, ()>;
 // At most 1,024 pairs, of unequal keys.
 #[derive(Drop)]
 pub struct Table<K: Key, V: Copy> {
+    // Linked by index, and no map of the library: a table has no heap, and its memory is fixed.
     nodes: [Node<K, V>; RECORDS],
     heads: Heads,
     ghost sound: { Sound K.before nodes heads } by { sound_prop K.code V.code K.before nodes heads },
@@ -102,7 +103,8 @@ impl<K: Key, V: Copy> Table<K, V> {
         Some(value)
     }
 
-    // Puts a pair in place of that of a key, where each other key lies on the same side of both keys, and answers whether it did.
+    // Puts a pair in place of that of a key, where each other key lies on the same side of both keys, and answers whether it did. A caller
+    // that must tell whether the key is there at all asks `get`.
     pub fn replace(&mut self, key: K, new: K, value: V) -> bool
         ensures { Replaces K.before (pairs self.old) (pairs self.new) key (pair new value) result }
     {
@@ -125,7 +127,7 @@ impl<K: Key, V: Copy> Table<K, V> {
         }
     }
 
-    // The first pair whose key does not come before a key.
+    // The first pair whose key does not come before a key. This and the next are one line each, of the two sides of one search.
     pub fn lowest_from(&self, key: K) -> Option<Entry<K, V>>
         ensures { result ≡ first (from K.before key (pairs self.now)) }
     {

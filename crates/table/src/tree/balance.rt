@@ -98,7 +98,8 @@ pub(crate) fn balance<K: Copy, V: Copy>(
     }
 }
 
-// Puts another link on a side of the node at a place, and writes its height.
+// Puts another link on a side of the node at a place, and writes its height. A place and a side, here and in `refit`, and no `Step`: what is
+// changed is a node, whatever way led to it. That the place is within the slice is owed as a number, as by all functions of a tree.
 fn relink<K: Copy, V: Copy>(nodes: &mut [Node<K, V>], at: u16, side: Side, link: u16, height: u8)
     requires { at < length nodes.old }
     ensures { (n : Node K V) → slice_get nodes.old at ≡ Some n → nodes.new ≡ slice_set nodes.old at (cell_of (item at n.key n.value) (links_of side link (link_on (across side) n.links)) height) }

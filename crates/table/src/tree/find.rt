@@ -1,4 +1,5 @@
-// Searches that change nothing. They are loops over links, and a link is answered as the records have it. In `right_end`
+// Searches that change nothing. They are loops over links, and a link is answered as the records have it: `around` keeps two of them, and
+// which it keeps is what it is for, so that an iterator over the way would be no plainer. In `right_end`
 // `successors(..).last()` was tried: the library counts `successors` as endless, and `last` must prove ⊥. Cut off by `take` it is no
 // plainer than the loop: it names a number of links, owes that the way has no more, and owes each read at any state of the iterator.
 ghost use Rattle.std.specs.Prelude.{◌≡◌};

@@ -1,4 +1,5 @@
-// Ways through a tree: down from the root, noted step by step, and back up. The ways down are loops over links. In `left_end` a `for`
+// Ways through a tree: down from the root, noted step by step, and back up. The ways down are loops over links: at each node of `seek` a side
+// is chosen and noted, so that an iterator over the way would be no plainer. In `left_end` a `for`
 // over `successors` was tried: the loop still keeps the link before, reads a left link at two places, and its proof did not close
 // (`loop-next-init`, that the closure may be called after any calls).
 ghost use Rattle.std.specs.Prelude.{◌≡◌, ℕ, ◌≤◌, List, ◌++◌};

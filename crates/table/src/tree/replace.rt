@@ -48,7 +48,7 @@ pub(crate) fn replaceable<K: Key, V: Copy>(
     }
 }
 
-// Puts another key and value into a record.
+// Puts another key and value into a record. That its place is within the slice is owed as a number, as by all functions of a tree.
 pub(crate) fn refill<K: Copy, V: Copy>(nodes: &mut [Node<K, V>], at: u16, key: K, value: V)
     requires { at < length nodes.old }
     ensures { (n : Node K V) → slice_get nodes.old at ≡ Some n → nodes.new ≡ slice_set nodes.old at (refilled key value n) }
