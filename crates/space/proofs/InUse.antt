@@ -1,15 +1,16 @@
 -- The runs of used sectors, between the free extents.
-use Rattle.std.proofs.Common.{◌≡◌, ℕ, zero, suc, ◌+◌, ◌-◌, ◌<◌, ◌≤◌, Bool, true, false, ltb, leb, not, ◌&&◌, Option, None, Some, sym, refl, ap, ◌∙◌, inl, inr, arith}
+use Rattle.std.proofs.Common.{◌≡◌, ℕ, zero, suc, ◌+◌, ◌-◌, ◌<◌, ◌≤◌, Bool, true, false, ltb, leb, ◌==◌, not, ◌&&◌, Option, None, Some, sym, refl, ap, ◌∙◌, inl, inr, arith}
 use Rattle.std.proofs.lemmas.Bool.{cases_Bool, cases_lt, both_ways, ltb-true, ltb-false, leb-true, leb-false}
 use Rattle.std.proofs.lemmas.Bool.Decides.{nat_tests}
 use Rattle.std.specs.Prelude.{MatchOption}
 use Rattle.std.specs.Bool.{then_some}
 use Rattle.slab_log.specs.Sectors.{Sectors, Run, used, begins}
-use Rattle.slab_log.proofs.Steps.{to_T, to_not_T, run_ends}
+use Rattle.slab_log.proofs.Steps.{from_T, to_T, to_not_T, run_ends}
 use Rattle.space.specs.Extents.{Starts, free_of, Spaced, in_list}
 use Rattle.space.specs.declared.run.SectorRun.{SectorRun}
-use Rattle.space.specs.Tables.{LastBefore, Next, FirstFrom, RightEdge, UsedFrom, FreeTo, UsedTo}
+use Rattle.space.specs.Tables.{LastBefore, Next, FirstFrom, RightEdge, UsedFrom, FreeTo, UsedTo, Passes}
 use Rattle.space.proofs.Cutting.{past_previous, before_all}
+use Rattle.space.proofs.Edges.{right_is}
 use Rattle.space.proofs.Spaced.{lies, filled, apart, holder}
 
 pub begins_on : (set : Sectors) (s : ℕ) → begins set s ≡ true → set s ≡ true
@@ -219,6 +220,59 @@ module _ (size : ℕ) (es : Starts) (h : Spaced 0 size es) where
   to_is start below off None none end is = rw is (to_size start below off none)
   to_is start below off (Some e) n end is = rw is (to_next start e off n)
 
--- a run of used sectors ends within the slab
+  -- where the first run begins
+  pub record First (at : ℕ) : Type 0 where
+    pub passes : Passes size (free_of es) 0 at
+    pub here : at < size → begins inuse at ≡ true
+
+  pub first_run : (o kept : Option SectorRun) → FirstFrom es 0 o → MatchOption o (kept ≡ None) (λ e. kept ≡ then_some (e.start == 0) e) → (at : ℕ) →
+      MatchOption kept (at ≡ 0) (λ e. at ≡ e.start + e.len) → First at
+  first_run o kept first k at is =
+      let edge = right_is size es h 0 o kept first k at is in
+      let u = at_zero at edge in
+      record {
+        passes = record {
+          low = u.from;
+          high = elim (cases_lt 0 at) [ inl l ↦ (let there = (lies 0 size es h 0 (at - 0) (edge.listed l)).within in omega arith) | inr l ↦ omega arith ];
+          quiet = u.quiet;
+        };
+        here = u.here;
+      }
+
+  -- the run that begins at a place, and where the next one does
+  pub record NextRun (at end to : ℕ) : Type 0 where
+    pub run : Run inuse at (end - at)
+    pub some : at < end
+    pub within : end ≤ size
+    pub passes : Passes size (free_of es) end to
+    pub here : to < size → begins inuse to ≡ true
+
+  pub next_run : (at : ℕ) → at < size → begins inuse at ≡ true → (o : Option SectorRun) → FirstFrom es at o → (to end : ℕ) →
+      MatchOption o (to ≡ size) (λ e. to ≡ e.start + e.len) → MatchOption o (end ≡ size) (λ e. end ≡ e.start) → NextRun at end to
+  next_run at below on o first to end to-is end-is =
+      let from : UsedFrom inuse size at at = record { from = omega arith; quiet = λ s p q. absurd (omega arith); here = λ k. on } in
+      let till = to_is at below (not_free_here at at from below) o first end end-is in
+      let ends = after o first to-is end-is in
+      record {
+        run = run_from at at end from below till.some till.within till.filled till.after;
+        some = till.some;
+        within = till.within;
+        passes = ends.0;
+        here = ends.1;
+      }
+    where
+      after : (o : Option SectorRun) → FirstFrom es at o → MatchOption o (to ≡ size) (λ e. to ≡ e.start + e.len) → MatchOption o (end ≡ size) (λ e. end ≡ e.start) →
+          Passes size (free_of es) end to × (to < size → begins inuse to ≡ true)
+      after None none t e = (record { low = omega arith; high = omega arith; quiet = λ s p q. absurd (omega arith) }, λ k. absurd (omega arith))
+      after (Some f) n t e =
+          let b = behind_free f.start f.start f.len n.listed (omega arith) (λ s p q. absurd (omega arith)) in
+          let within = (lies 0 size es h f.start f.len n.listed).within in
+          rw (t, e) (record { low = b.from; high = within; quiet = b.quiet }, b.here)
+
+-- a run of used sectors begins within the slab
+pub run_inside : (size : ℕ) (free : Sectors) (s l : ℕ) → Run (used size free) s l → s < size
+run_inside size free s l r = let some = r.some in let on = from_T (r.filled s (omega arith) (omega arith)) in grind (arith, nat_tests)
+
+-- and ends within it
 pub used_ends : (size : ℕ) (free : Sectors) (s l : ℕ) → Run (used size free) s l → s + l ≤ size
 used_ends size free s l r = run_ends size (used size free) s l (λ p past. to_not_T (grind (arith, nat_tests))) r

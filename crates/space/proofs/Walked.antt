@@ -1,6 +1,6 @@
 -- The runs of used sectors, walked one after the other: the words of those before a place, and of those from it on.
 use Rattle.std.proofs.Common.{◌≡◌, ℕ, ◌+◌, ◌≤◌, List, [], ◌∷◌, ◌++◌, length, Some, None, sym, refl, ap, ◌∙◌, subst, inl, inr, append_assoc, append-nil, arith, length-append}
-use Rattle.std.proofs.lemmas.Bool.{cases_order}
+use Rattle.std.proofs.lemmas.Bool.{cases_order, cases_lt, both_ways}
 use Rattle.slab_log.specs.Sectors.{Sectors, used}
 use Rattle.slab_log.specs.Words.{words_of, entries}
 use Rattle.slab_log.specs.Condensed.{RunsFrom, none, next, all_words, Condensed}
@@ -8,7 +8,9 @@ use Rattle.slab_log.specs.declared.entry.Effect.TheVariants.{Allocates}
 use Rattle.slab_log.specs.declared.extent.Extent.{Extent}
 use Rattle.slab_log.proofs.Unique.{head, same_length}
 use Rattle.slab_log.proofs.Written.{words_length}
+use Rattle.slab_log.proofs.Counted.{run_begins}
 use Rattle.space.specs.Free.{Follows}
+use Rattle.space.specs.Tables.{Passes}
 use Rattle.space.proofs.InUse.{used_ends}
 
 -- the runs from a place on, once the first of them is taken away
@@ -78,6 +80,21 @@ number_on set log at n e m f =
       count = omega (arith, m.count, length-append m.done new, words_length Allocates e.start e.length e.some);
     }
 
+-- nothing changes up to where the next run begins
+runs_past : (size : ℕ) (free : Sectors) (at to : ℕ) (runs : List (ℕ × ℕ)) → Passes size free at to → RunsFrom (used size free) at runs → RunsFrom (used size free) to runs
+runs_past size free at to runs p (none h) = let low = p.low in none (λ s k. h s (omega arith))
+runs_past size free at to runs p (next {start = start} {len = len} ahead gap run more) =
+    let low = p.low in
+    let past : to ≤ start =
+    elim (cases_lt start to) [ inl k ↦ absurd (both_ways _ (p.quiet start ahead k) (run_begins (used size free) start len run)) | inr k ↦ k ] in
+    next {start = start} {len = len} past (λ s k l. gap s (omega arith) l) run more
+
+pub walk_past : (size : ℕ) (free : Sectors) (log : List ℕ) (at to : ℕ) (done : List ℕ) → Passes size free at to → Walked (used size free) log at done → Walked (used size free) log to done
+walk_past size free log at to done p w = record { runs = w.runs; from = runs_past size free at to w.runs p w.from; whole = w.whole }
+
+pub number_past : (size : ℕ) (free : Sectors) (log : List ℕ) (at to n : ℕ) → Passes size free at to → Numbered (used size free) log at n → Numbered (used size free) log to n
+number_past size free log at to n p m = record { done = m.done; walked = walk_past size free log at to m.done p m.walked; count = m.count }
+
 -- nothing has been written yet
 pub walk_starts : (size : ℕ) (free : Sectors) (log : List ℕ) → Condensed size free log → Walked (used size free) log 0 []
 walk_starts size free log c = record { runs = c.ranges; from = c.all; whole = c.written }
@@ -93,6 +110,21 @@ pub record Writing (size : ℕ) (free : Sectors) (capacity : ℕ) (before : List
   pub walked : Walked (used size free) log at done
   pub words : now ≡ before ++ done
   pub kept : now-capacity ≡ capacity
+
+pub write_past : (size : ℕ) (free : Sectors) (capacity : ℕ) (before : List ℕ) (needed at to now-capacity : ℕ) (now : List ℕ) → Passes size free at to →
+    Writing size free capacity before needed at now-capacity now → Writing size free capacity before needed to now-capacity now
+write_past size free capacity before needed at to now-capacity now p w =
+    record {
+      log = w.log;
+      condensed = w.condensed;
+      count = w.count;
+      fits = w.fits;
+      within = p.high;
+      done = w.done;
+      walked = walk_past size free w.log at to w.done p w.walked;
+      words = w.words;
+      kept = w.kept;
+    }
 
 module _ (size : ℕ) (free : Sectors) (capacity : ℕ) (before : List ℕ) (needed at now-capacity : ℕ) (now : List ℕ)
     (w : Writing size free capacity before needed at now-capacity now) (e : Extent) (f : Follows (used size free) at (Some e)) where

@@ -95,3 +95,9 @@ pub record UsedTo (size : ℕ) (free : Sectors) (start end : ℕ) : Type 0 where
   pub within : end ≤ size
   pub filled : (s : ℕ) → start ≤ s → s < end → free s ≡ false
   pub after : used size free end ≡ false
+
+-- no run of used sectors begins from one place up to another, which is not past the end of the slab
+pub record Passes (size : ℕ) (free : Sectors) (from to : ℕ) : Type 0 where
+  pub low : from ≤ to
+  pub high : to ≤ size
+  pub quiet : (s : ℕ) → from ≤ s → s < to → begins (used size free) s ≡ false
