@@ -5,7 +5,7 @@ use Rattle.std.proofs.lemmas.Bool.Decides.{nat_tests}
 use Rattle.std.specs.Prelude.{MatchOption}
 use Rattle.std.specs.Bool.{then_some}
 use Rattle.slab_log.specs.Sectors.{Sectors, Run, used, begins}
-use Rattle.slab_log.proofs.Steps.{from_T, to_T, to_not_T, run_ends}
+use Rattle.slab_log.proofs.Steps.{to_T, to_not_T, run_ends}
 use Rattle.space.specs.Extents.{Starts, free_of, Spaced, in_list}
 use Rattle.space.specs.declared.run.SectorRun.{SectorRun}
 use Rattle.space.specs.Tables.{LastBefore, Next, FirstFrom, RightEdge, UsedFrom, FreeTo, UsedTo, Passes}
@@ -269,10 +269,6 @@ module _ (size : ℕ) (es : Starts) (h : Spaced 0 size es) where
           let within = (lies 0 size es h f.start f.len n.listed).within in
           rw (t, e) (record { low = b.from; high = within; quiet = b.quiet }, b.here)
 
--- a run of used sectors begins within the slab
-pub run_inside : (size : ℕ) (free : Sectors) (s l : ℕ) → Run (used size free) s l → s < size
-run_inside size free s l r = let some = r.some in let on = from_T (r.filled s (omega arith) (omega arith)) in grind (arith, nat_tests)
-
--- and ends within it
+-- a run of used sectors ends within the slab
 pub used_ends : (size : ℕ) (free : Sectors) (s l : ℕ) → Run (used size free) s l → s + l ≤ size
 used_ends size free s l r = run_ends size (used size free) s l (λ p past. to_not_T (grind (arith, nat_tests))) r
