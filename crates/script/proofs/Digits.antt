@@ -1,5 +1,5 @@
 -- The digits at the front of a list, and a loop over them: what it keeps, each step, and what its end gives.
-use Rattle.std.proofs.Common.{◌≡◌, ℕ, ◌+◌, ◌-◌, ◌*◌, ◌^◌, ◌<◌, ◌≤◌, true, false, leb, ◌≢◌, Bool, cond, ◌⊎◌, inl, inr, suc, zero, List, [], ◌∷◌, ◌++◌, length, get_or, take, drop, Ok, Err, sym, refl, ap, ◌∙◌, arith, pow-add}
+use Rattle.std.proofs.Common.{◌≡◌, ℕ, ◌+◌, ◌-◌, ◌*◌, ◌^◌, ◌<◌, ◌≤◌, true, false, leb, ◌≢◌, Bool, cond, ◌⊎◌, inl, inr, suc, zero, List, [], ◌∷◌, ◌++◌, length, get_or, min, take, drop, Ok, Err, sym, refl, ap, ◌∙◌, arith, pow-add}
 use Rattle.std.proofs.lemmas.List.{drop_more}
 use Rattle.std.proofs.Math.Seq.{take-append_seam}
 use Rattle.std.proofs.lemmas.List.Folds.{length-prefix_len}
@@ -31,43 +31,49 @@ front_split (b ∷ bs) = go (is_digit b) (front_split bs)
     go true h = behind b h
     go false h = refl
 
-digits_first : (xs : List ℕ) → prefix_len is_digit xs ≡ length (front_digits xs)
-digits_first [] = refl
-digits_first (b ∷ bs) = go (is_digit b) (digits_first bs)
+digits_first : (k : ℕ) (xs : List ℕ) → prefix_len is_digit (take k xs) ≡ min k (length (front_digits xs))
+digits_first zero xs = omega arith
+digits_first (suc k) [] = omega arith
+digits_first (suc k) (b ∷ bs) = go (is_digit b) (digits_first k bs)
   where
-    go : (t : Bool) → prefix_len is_digit bs ≡ length (front_digits bs)
-        → cond t (1 + prefix_len is_digit bs) 0 ≡ length (cond t (b ∷ front_digits bs) [])
+    go : (t : Bool) → prefix_len is_digit (take k bs) ≡ min k (length (front_digits bs))
+        → cond t (1 + prefix_len is_digit (take k bs)) 0 ≡ min (suc k) (length (cond t (b ∷ front_digits bs) []))
     go true h = omega arith
-    go false h = refl
+    go false h = omega arith
 
--- how many digits there are is how many bytes from the front on are digits
-pub digits_counted : (xs : List ℕ) → length (take_while is_digit xs) ≡ length (front_digits xs)
-digits_counted xs = length-prefix_len is_digit xs ∙ digits_first xs
+-- how many of the first bytes are digits is how many digits there are, but for those that stand behind these bytes
+pub digits_counted : (k : ℕ) (xs : List ℕ) → length (take_while is_digit (take k xs)) ≡ min k (length (front_digits xs))
+digits_counted k xs = length-prefix_len is_digit (take k xs) ∙ digits_first k xs
 
-module _ (line : List ℕ) (from n : ℕ) (counts : n ≡ length (take_while is_digit (drop from line))) where
-  same : n ≡ length (front_digits (drop from line))
-  same = counts ∙ digits_counted (drop from line)
+module _ (line : List ℕ) (from n : ℕ) (counts : n ≡ length (take_while is_digit (take 11 (drop from line)))) where
+  seen : n ≡ min 11 (length (front_digits (drop from line)))
+  seen = counts ∙ digits_counted 11 (drop from line)
+
+  same : n ≤ 10 → n ≡ length (front_digits (drop from line))
+  same few = omega (arith, seen)
 
   -- the digits are the part of the line that the code cuts out
-  pub digits_cut : take (from + n - from) (drop from line) ≡ front_digits (drop from line)
-  digits_cut =
+  pub digits_cut : n ≤ 10 → take n (drop from line) ≡ front_digits (drop from line)
+  digits_cut few =
       let bs : List ℕ = drop from line in
-      let back : from + n - from ≡ length (front_digits bs) = omega (arith, same) in
-      ap (λ (k : ℕ). take k bs) back
+      ap (λ (k : ℕ). take k bs) (same few)
       ∙ (ap (take (length (front_digits bs))) (front_split bs)
       ∙ take-append_seam (front_digits bs) (drop (length (front_digits bs)) bs))
 
   -- none, or more than 10, are refused
   pub number_refused : (n ≡ 0) ⊎ (n ≢ 0 × (10 < n)) → number_at line from ≡ Err BadLine
-  number_refused (inl none) = rw (← same, none) refl
-  number_refused (inr (some, many)) = rw (← same, and_right (leb 1 n) (leb n 10) (lt-leb n 10 many)) refl
+  number_refused (inl none) = rw (← same (omega arith), none) refl
+  number_refused (inr (some, many)) =
+      let k : ℕ = length (front_digits (drop from line)) in
+      let more : 10 < k = omega (arith, seen) in
+      rw (and_right (leb 1 k) (leb k 10) (lt-leb k 10 more)) refl
 
   -- 1 to 10 of them are a number
   pub number_counted : (v : ℕ) → n ≢ 0 → n ≤ 10 → v ≡ value (front_digits (drop from line))
       → number_at line from ≡ Ok (record { value = v; end = from + n })
   number_counted v some few is =
       let some_few : counted n ≡ true = and_from _ _ (le-leb 1 n (omega arith)) (le-leb n 10 few) in
-      rw (← same, some_few, is) refl
+      rw (← same few, some_few, is) refl
 
 -- each of a list of digits is one
 pub digit_at : (ds : List ℕ) (i : ℕ) → front_digits ds ≡ ds → i < length ds → is_digit (get_or ds i 0) ≡ true

@@ -1,5 +1,5 @@
 // Reading a number of a script line.
-ghost use Rattle.std.specs.Prelude.{◌≡◌, ◌≤◌, length, drop};
+ghost use Rattle.std.specs.Prelude.{◌≡◌, ◌≤◌, length, take, drop};
 ghost use Rattle.std.specs.List.{take_while};
 ghost use Rattle.script.specs.Numbers.{is_digit, front_digits, value, number_at};
 
@@ -16,12 +16,24 @@ pub struct Number {
     pub end: usize,
 }
 
-// How many digits stand one after the other from a place of the line on.
-fn count_digits(line: &[u8], from: usize) -> usize
-    ensures { result ≡ length (take_while is_digit (drop from line.now)) }
+// What stands from a place of the line on: nothing where the line is shorter. By a part of it and no `skip`, which walks to the place.
+fn rest_from(line: &[u8], from: usize) -> &[u8]
+    ensures { result.now ≡ drop from line.now }
 {
-    line.iter()
-        .skip(from)
+    if from < line.len() {
+        &line[from..]
+    } else {
+        &[]
+    }
+}
+
+// How many of the first bytes are digits, up to one more than a number may have: no line is read on for a number that is refused.
+fn count_digits(bytes: &[u8]) -> usize
+    ensures { result ≡ length (take_while is_digit (take 11 bytes.now)) }
+{
+    bytes
+        .iter()
+        .take(MOST_DIGITS + 1)
         .take_while(|b| b.is_ascii_digit())
         .count()
 }
@@ -44,13 +56,13 @@ fn value_of(digits: &[u8]) -> u64
 pub fn read_number(line: &[u8], from: usize) -> Result<Number, Refusal>
     ensures { result ≡ number_at line.now from }
 {
-    let count = count_digits(line, from);
+    let rest = rest_from(line, from);
+    let count = count_digits(rest);
     if count == 0 || count > MOST_DIGITS {
         return Err(Refusal::BadLine);
     }
-    let end = from + count;
     Ok(Number {
-        value: value_of(&line[from..end]),
-        end,
+        value: value_of(&rest[..count]),
+        end: from + count,
     })
 }
