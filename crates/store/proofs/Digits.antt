@@ -71,17 +71,23 @@ le_taken n at k area part size is =
 pub le_put : (n at : ℕ) (before after bytes : List ℕ) → length bytes ≡ n → Written before after at bytes → le n after at ≡ le n bytes 0
 le_put n at before after bytes long written = le_moved n 0 at bytes after (λ j below. written.there j (omega arith) ∙ moved_to bytes (omega arith))
 
+-- a number whose digits were written is read again
+pub le_written : (n v at : ℕ) (before after bytes : List ℕ) → bytes ≡ (v % 256) ∷ digits n 256 v → v < 256 ^ suc n → Written before after at bytes → le (suc n) after at ≡ v
+le_written n v at before after bytes is small written =
+    let long : length bytes ≡ suc n = ap length is ∙ ap suc (length_digits n 256 v) in
+    le_put (suc n) at before after bytes long written ∙ le_bytes n v bytes is small
+
 pub outside : (n at : ℕ) (before after bytes : List ℕ) → length bytes ≡ n → Written before after at bytes → SameOutside before after at n
 outside n at before after bytes long written = subst (λ (w : ℕ). SameOutside before after at w) long written.elsewhere
 
 -- the number of 4 bytes, and that of 8, as the sum that a read of them gives
-pub le_four : (bytes : List ℕ) → le 4 bytes 0 ≡ get_or bytes 0 0 + get_or bytes 1 0 * 256 + get_or bytes 2 0 * 65536 + get_or bytes 3 0 * 16777216
+pub le_four : (area : List ℕ) (at : ℕ) → le 4 area at ≡ get_or area at 0 + get_or area (at + 1) 0 * 256 + get_or area (at + 2) 0 * 65536 + get_or area (at + 3) 0 * 16777216
 unfolding le
-le_four bytes = simp add_assoc (omega arith)
+le_four area at = simp add_assoc (omega arith)
 
-pub le_eight : (bytes : List ℕ) → le 8 bytes 0 ≡ get_or bytes 0 0 + get_or bytes 1 0 * 256 + get_or bytes 2 0 * 65536 + get_or bytes 3 0 * 16777216 + get_or bytes 4 0 * 4294967296 + get_or bytes 5 0 * 1099511627776 + get_or bytes 6 0 * 281474976710656 + get_or bytes 7 0 * 72057594037927936
+pub le_eight : (area : List ℕ) (at : ℕ) → le 8 area at ≡ get_or area at 0 + get_or area (at + 1) 0 * 256 + get_or area (at + 2) 0 * 65536 + get_or area (at + 3) 0 * 16777216 + get_or area (at + 4) 0 * 4294967296 + get_or area (at + 5) 0 * 1099511627776 + get_or area (at + 6) 0 * 281474976710656 + get_or area (at + 7) 0 * 72057594037927936
 unfolding le
-le_eight bytes = simp add_assoc (omega arith)
+le_eight area at = simp add_assoc (omega arith)
 
 -- a write to a part of the area
 module _ (at k : ℕ) (area bytes part : List ℕ) (size : k ≡ length bytes) (is : part ≡ bytes) (room : at + length bytes ≤ length area) where

@@ -19,5 +19,5 @@ returns c =
     let checked : Checks area (Ok c.in_ok-header.header) = search rules in
     let below : c.args.i < count_field area = omega (arith, checked.1.count) in (
       omega (arith, count_met area checked.0),
-      c.from_le_bytes.ensures ∙ sym (le_eight c.get-word.result) ∙ c.get-word.ensures ∙ ap (λ first. le64 area (first + 8 * c.args.i)) checked.1.first ∙ word_met area checked.0 c.args.i below,
+      c.from_le_bytes.ensures ∙ sym (le_eight c.get-word.result 0) ∙ c.get-word.ensures ∙ ap (λ first. le64 area (first + 8 * c.args.i)) checked.1.first ∙ word_met area checked.0 c.args.i below,
     )
