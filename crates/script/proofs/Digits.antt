@@ -31,49 +31,50 @@ front_split (b ∷ bs) = go (is_digit b) (front_split bs)
     go true h = behind b h
     go false h = refl
 
-digits_first : (k : ℕ) (xs : List ℕ) → prefix_len is_digit (take k xs) ≡ min k (length (front_digits xs))
-digits_first zero xs = omega arith
-digits_first (suc k) [] = omega arith
-digits_first (suc k) (b ∷ bs) = go (is_digit b) (digits_first k bs)
+-- of the first bytes, the digits at the front are those of all, if they end before
+pub front_taken : (k : ℕ) (bs : List ℕ) → length (front_digits (take k bs)) < k → front_digits (take k bs) ≡ front_digits bs
+front_taken zero bs h = absurd (omega arith)
+front_taken (suc k) [] h = refl
+front_taken (suc k) (b ∷ bs) h = go (is_digit b) (front_taken k bs) h
   where
-    go : (t : Bool) → prefix_len is_digit (take k bs) ≡ min k (length (front_digits bs))
-        → cond t (1 + prefix_len is_digit (take k bs)) 0 ≡ min (suc k) (length (cond t (b ∷ front_digits bs) []))
+    go : (t : Bool) → (length (front_digits (take k bs)) < k → front_digits (take k bs) ≡ front_digits bs)
+        → length (cond t (b ∷ front_digits (take k bs)) []) < suc k
+        → cond t (b ∷ front_digits (take k bs)) [] ≡ cond t (b ∷ front_digits bs) []
+    go true later h = behind b (later (omega arith))
+    go false later h = refl
+
+-- and there are as many at least
+front_fewer : (k : ℕ) (bs : List ℕ) → length (front_digits (take k bs)) ≤ length (front_digits bs)
+front_fewer zero bs = omega arith
+front_fewer (suc k) [] = omega arith
+front_fewer (suc k) (b ∷ bs) = go (is_digit b) (front_fewer k bs)
+  where
+    go : (t : Bool) → length (front_digits (take k bs)) ≤ length (front_digits bs)
+        → length (cond t (b ∷ front_digits (take k bs)) []) ≤ length (cond t (b ∷ front_digits bs) [])
     go true h = omega arith
     go false h = omega arith
 
--- how many of the first bytes are digits is how many digits there are, but for those that stand behind these bytes
-pub digits_counted : (k : ℕ) (xs : List ℕ) → length (take_while is_digit (take k xs)) ≡ min k (length (front_digits xs))
-digits_counted k xs = length-prefix_len is_digit (take k xs) ∙ digits_first k xs
-
-module _ (line : List ℕ) (from n : ℕ) (counts : n ≡ length (take_while is_digit (take 11 (drop from line)))) where
-  seen : n ≡ min 11 (length (front_digits (drop from line)))
-  seen = counts ∙ digits_counted 11 (drop from line)
-
-  same : n ≤ 10 → n ≡ length (front_digits (drop from line))
-  same few = omega (arith, seen)
-
-  -- the digits are the part of the line that the code cuts out
-  pub digits_cut : n ≤ 10 → take n (drop from line) ≡ front_digits (drop from line)
-  digits_cut few =
-      let bs : List ℕ = drop from line in
-      ap (λ (k : ℕ). take k bs) (same few)
-      ∙ (ap (take (length (front_digits bs))) (front_split bs)
-      ∙ take-append_seam (front_digits bs) (drop (length (front_digits bs)) bs))
+module _ (line : List ℕ) (from n : ℕ) (counts : n ≡ length (front_digits (take 11 (drop from line)))) where
+  same : n ≤ 10 → front_digits (take 11 (drop from line)) ≡ front_digits (drop from line)
+  same few = front_taken 11 (drop from line) (omega (arith, counts))
 
   -- none, or more than 10, are refused
   pub number_refused : (n ≡ 0) ⊎ (n ≢ 0 × (10 < n)) → number_at line from ≡ Err BadLine
-  number_refused (inl none) = rw (← same (omega arith), none) refl
+  number_refused (inl none) =
+      let zero_of : length (front_digits (drop from line)) ≡ 0 = ap length (sym (same (omega arith))) ∙ sym counts ∙ none in
+      rw zero_of refl
   number_refused (inr (some, many)) =
       let k : ℕ = length (front_digits (drop from line)) in
-      let more : 10 < k = omega (arith, seen) in
+      let more : 10 < k = omega (arith, counts, front_fewer 11 (drop from line)) in
       rw (and_right (leb 1 k) (leb k 10) (lt-leb k 10 more)) refl
 
   -- 1 to 10 of them are a number
-  pub number_counted : (v : ℕ) → n ≢ 0 → n ≤ 10 → v ≡ value (front_digits (drop from line))
+  pub number_counted : (v : ℕ) → n ≢ 0 → n ≤ 10 → v ≡ value (front_digits (take 11 (drop from line)))
       → number_at line from ≡ Ok (record { value = v; end = from + n })
   number_counted v some few is =
       let some_few : counted n ≡ true = and_from _ _ (le-leb 1 n (omega arith)) (le-leb n 10 few) in
-      rw (← same few, some_few, is) refl
+      let long : length (front_digits (drop from line)) ≡ n = ap length (sym (same few)) ∙ sym counts in
+      rw (long, some_few, is ∙ ap value (same few)) refl
 
 -- each of a list of digits is one
 pub digit_at : (ds : List ℕ) (i : ℕ) → front_digits ds ≡ ds → i < length ds → is_digit (get_or ds i 0) ≡ true
@@ -90,25 +91,35 @@ digit_at (d ∷ ds) i h inside = go (is_digit d) refl h (digit_at ds) i inside
 pub digit_low : (ds : List ℕ) (i : ℕ) → front_digits ds ≡ ds → i < length ds → 48 ≤ get_or ds i 0
 digit_low ds i h inside = leb-true 48 (get_or ds i 0) (and_parts (leb 48 (get_or ds i 0)) (leb (get_or ds i 0) 57) (digit_at ds i h inside)).0
 
--- v is what the digits before a place write
-pub record Read (ds : List ℕ) (i v : ℕ) : Type 0 where
-  pub few : i ≤ 10
+-- v is what the digits before a place write, and n is how many they are
+pub record Read (bs : List ℕ) (i v n : ℕ) : Type 0 where
+  pub few : i ≤ 11
   pub small : v < 10 ^ i
-  pub value_same : value_after v (front_digits (drop i ds)) ≡ value (front_digits ds)
+  pub counts : n ≡ i
+  pub value_same : value_after v (front_digits (drop i bs)) ≡ value (front_digits bs)
+  pub count_same : i + length (front_digits (drop i bs)) ≡ length (front_digits bs)
 
 power_more : (k v d : ℕ) → v < 10 ^ k → d < 10 → v * 10 + d < 10 ^ (k + 1)
 power_more k v d h e = rw (pow-add 10 k 1) (omega arith)
 
 -- one digit on
-pub read_more : (ds : List ℕ) (i v : ℕ) → Read ds i v → i < length ds → length ds ≤ 10 → is_digit (get_or ds i 0) ≡ true
-    → Read ds (i + 1) (v * 10 + (get_or ds i 0 - 48))
-read_more ds i v r h few d =
-    let more : front_digits (drop i ds) ≡ get_or ds i 0 ∷ front_digits (drop (i + 1) ds) = rw (drop_more ds i 0 h, d) refl in
-    let b : ℕ = get_or ds i 0 in
+pub read_more : (bs : List ℕ) (i v n : ℕ) → Read bs i v n → i < length bs → length bs ≤ 11 → is_digit (get_or bs i 0) ≡ true
+    → Read bs (i + 1) (v * 10 + (get_or bs i 0 - 48)) (n + 1)
+read_more bs i v n r h few d =
+    let more : front_digits (drop i bs) ≡ get_or bs i 0 ∷ front_digits (drop (i + 1) bs) = rw (drop_more bs i 0 h, d) refl in
+    let b : ℕ = get_or bs i 0 in
     let high : b ≤ 57 = leb-true b 57 (and_parts (leb 48 b) (leb b 57) d).1 in
     let small : b - 48 < 10 = omega arith in
+    let rest : length (front_digits (drop i bs)) ≡ suc (length (front_digits (drop (i + 1) bs))) = ap length more in
     record {
       few = omega arith;
-      small = power_more i v (get_or ds i 0 - 48) r.small small;
+      small = power_more i v (get_or bs i 0 - 48) r.small small;
+      counts = omega (arith, r.counts);
       value_same = ap (value_after v) (sym more) ∙ r.value_same;
+      count_same = omega (arith, rest, r.count_same);
     }
+
+-- where no digit follows, all are read
+pub read_all : (bs : List ℕ) (i v n : ℕ) → Read bs i v n → front_digits (drop i bs) ≡ [] → (v ≡ value (front_digits bs)) × (n ≡ length (front_digits bs))
+read_all bs i v n r none =
+    (ap (value_after v) (sym none) ∙ r.value_same, omega (arith, r.counts, r.count_same, ap length none))

@@ -1,7 +1,6 @@
 // Reading a number of a script line.
 ghost use Rattle.std.specs.Prelude.{◌≡◌, ◌≤◌, length, take, drop};
-ghost use Rattle.std.specs.List.{take_while};
-ghost use Rattle.script.specs.Numbers.{is_digit, front_digits, value, number_at};
+ghost use Rattle.script.specs.Numbers.{front_digits, value, number_at};
 
 use slab_log::Refusal;
 
@@ -16,53 +15,44 @@ pub struct Number {
     pub end: usize,
 }
 
-// What stands from a place of the line on: nothing where the line is shorter. By a part of it and no `skip`, which walks to the place.
-fn rest_from(line: &[u8], from: usize) -> &[u8]
-    ensures { result.now ≡ drop from line.now }
+// What stands from a place of the line on, up to one byte more than a number may have: no line is read on for a number that is refused. By a
+// part of the line and no `skip`, which walks to the place.
+fn front_from(line: &[u8], from: usize) -> &[u8]
+    ensures { result.now ≡ take 11 (drop from line.now) }
 {
-    if from < line.len() {
-        &line[from..]
-    } else {
-        &[]
-    }
+    let rest = line.get(from..).unwrap_or_default();
+    &rest[..rest.len().min(MOST_DIGITS + 1)]
 }
 
-// How many of the first bytes are digits, up to one more than a number may have: no line is read on for a number that is refused.
-fn count_digits(bytes: &[u8]) -> usize
-    ensures { result ≡ length (take_while is_digit (take 11 bytes.now)) }
-{
-    bytes
-        .iter()
-        .take(MOST_DIGITS + 1)
-        .take_while(|b| b.is_ascii_digit())
-        .count()
-}
-
-// What these digits write in base ten. The library's `parse` takes a text and a sign, and its text would have to be cut out and tested
-// first. A fold is no plainer than the loop: its closure would have to show of any sum that the next fits.
-fn value_of(digits: &[u8]) -> u64
-    requires few { length digits.now ≤ 10 }
-    requires digits { front_digits digits.now ≡ digits.now }
-    ensures { result ≡ value digits.now }
+// What the digits at the front of these bytes write in base ten, and how many they are. The library's `parse` takes a text and a sign, and its
+// text would have to be cut out and tested first. One loop for both: counted first, each digit is read twice.
+fn read_digits(bytes: &[u8]) -> Number
+    requires { length bytes.now ≤ 11 }
+    ensures value { result.value ≡ value (front_digits bytes.now) }
+    ensures end { result.end ≡ length (front_digits bytes.now) }
 {
     let mut value: u64 = 0;
-    for digit in digits {
+    let mut end = 0;
+    for digit in bytes {
+        if !digit.is_ascii_digit() {
+            break;
+        }
         value = value * 10 + u64::from(*digit - b'0');
+        end += 1;
     }
-    value
+    Number { value, end }
 }
 
 // The number whose digits begin at a place of the line: 1 to 10 digits, up to the first byte that is none.
 pub fn read_number(line: &[u8], from: usize) -> Result<Number, Refusal>
     ensures { result ≡ number_at line.now from }
 {
-    let rest = rest_from(line, from);
-    let count = count_digits(rest);
-    if count == 0 || count > MOST_DIGITS {
+    let digits = read_digits(front_from(line, from));
+    if digits.end == 0 || digits.end > MOST_DIGITS {
         return Err(Refusal::BadLine);
     }
     Ok(Number {
-        value: value_of(&rest[..count]),
-        end: from + count,
+        value: digits.value,
+        end: from + digits.end,
     })
 }

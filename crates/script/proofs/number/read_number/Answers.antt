@@ -1,22 +1,17 @@
--- The digits are a part of the line, and what they write is the number.
-use Rattle.std.proofs.Common.{ℕ, List, length, take, sym, ap, ◌∙◌, arith}
-use Rattle.std.specs.List.{take_while}
-use Rattle.script.specs.Numbers.{is_digit, value}
-use Rattle.script.proofs.Digits.{digits_cut, number_refused, number_counted}
+-- The digits at the front of the part are the number, where there are 1 to 10.
+use Rattle.std.proofs.Common.{ℕ, List, length, sym, ap, ◌∙◌, arith}
+use Rattle.script.specs.Numbers.{front_digits, value}
+use Rattle.script.proofs.Digits.{number_refused, number_counted}
 use Rattle.script.proofs.number.read_number.Goals as goal
 
--- how many digits of the first 11 bytes
-abbrev counted_of : List ℕ → ℕ
-counted_of bs = length (take_while is_digit (take 11 bs))
-
-pub returns-then-count-eq0 : goal.returns-then-count-eq0
-returns-then-count-eq0 c =
-    let counts = c.count_digits-count.ensures ∙ ap counted_of c.rest_from-rest.ensures in
-    sym (number_refused c.args.line.now c.args.from _ counts c.then-count-eq0.either)
+pub returns-then-digits-eq0 : goal.returns-then-digits-eq0
+returns-then-digits-eq0 c =
+    let counts = c.read_digits-digits.ensures.end ∙ ap (λ (bs : List ℕ). length (front_digits bs)) c.front_from.ensures in
+    sym (number_refused c.args.line.now c.args.from _ counts c.then-digits-eq0.either)
 
 pub returns : goal.returns
 returns c =
-    let rest = c.rest_from-rest.ensures in
-    let counts = c.count_digits-count.ensures ∙ ap counted_of rest in
-    let cut = ap (take c.count_digits-count.result) rest ∙ digits_cut c.args.line.now c.args.from _ counts (omega arith) in
-    sym (number_counted c.args.line.now c.args.from _ counts _ c.if-count-eq0.false (omega arith) (c.value_of.ensures ∙ ap value cut))
+    let front = c.front_from.ensures in
+    let counts = c.read_digits-digits.ensures.end ∙ ap (λ (bs : List ℕ). length (front_digits bs)) front in
+    let value_is = c.read_digits-digits.ensures.value ∙ ap (λ (bs : List ℕ). value (front_digits bs)) front in
+    sym (number_counted c.args.line.now c.args.from _ counts _ c.if-digits-eq0.false c.if-digits-gt-MOST_DIGITS.false value_is)
