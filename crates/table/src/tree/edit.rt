@@ -29,12 +29,12 @@ pub(crate) fn insert<K: Key, V: Copy>(
     requires short { length nodes.old ≤ 1024 }
     ensures { (t : Tree K V) → Whole K.before nodes.old root t → Free nodes.old item.at t → Inserts K.before nodes.old nodes.new item t result }
 {
-    let place = seek(nodes, root, item.key);
+    let mut place = seek(nodes, root, item.key);
     if place.link != NONE {
         return None;
     }
     let new = join(nodes, item, Links::NONE);
-    Some(climb(nodes, place.path, new))
+    Some(climb(nodes, &mut place.path, new))
 }
 
 // Takes the first node out of a tree.
@@ -42,9 +42,9 @@ fn take_min<K: Copy, V: Copy>(nodes: &mut [Node<K, V>], root: u16) -> Taken
     requires { (t : Tree K V) × Stem nodes.old root t }
     ensures { (t : Tree K V) → Stem nodes.old root t → MinTaken nodes.old nodes.new result.at result.rest t }
 {
-    let end = left_end(nodes, root);
+    let mut end = left_end(nodes, root);
     let right = read(nodes, end.link).links.right;
-    let rest = climb(nodes, end.path, right);
+    let rest = climb(nodes, &mut end.path, right);
     Taken { at: end.link, rest }
 }
 
@@ -73,12 +73,12 @@ pub(crate) fn remove<K: Key, V: Copy>(nodes: &mut [Node<K, V>], root: u16, key: 
     requires short { length nodes.old ≤ 1024 }
     ensures { (t : Tree K V) → Whole K.before nodes.old root t → Removes K.before nodes.old nodes.new key t result }
 {
-    let place = seek(nodes, root, key);
+    let mut place = seek(nodes, root, key);
     if place.link == NONE {
         return None;
     }
     let sub = lift(nodes, place.link);
-    let rest = climb(nodes, place.path, sub);
+    let rest = climb(nodes, &mut place.path, sub);
     Some(Taken {
         at: place.link,
         rest,

@@ -35,12 +35,11 @@ pub(crate) struct Place {
 }
 
 // Goes back up a way, and balances each node of it over the tree that is new below, until nothing changes above.
-pub(crate) fn climb<K: Copy, V: Copy>(nodes: &mut [Node<K, V>], path: Path, link: u16) -> u16
-    requires { (fs : List (Frame K V)) × (t : Tree K V) × (h : ℕ) × Climb nodes.old path.items link fs t h }
-    ensures { (fs : List (Frame K V)) (t : Tree K V) (h : ℕ) → Climb nodes.old path.items link fs t h → Climbed nodes.old nodes.new result (front fs ++ (inorder t ++ back fs)) (top fs h) }
+pub(crate) fn climb<K: Copy, V: Copy>(nodes: &mut [Node<K, V>], path: &mut Path, link: u16) -> u16
+    requires { (fs : List (Frame K V)) × (t : Tree K V) × (h : ℕ) × Climb nodes.old path.old.items link fs t h }
+    ensures { (fs : List (Frame K V)) (t : Tree K V) (h : ℕ) → Climb nodes.old path.old.items link fs t h → Climbed nodes.old nodes.new result (front fs ++ (inorder t ++ back fs)) (top fs h) }
 {
     let root = path.first().map_or(link, |first| first.at);
-    let mut path = path;
     let mut sub = link;
     while let Some(step) = path.pop() {
         let Some(link) = refit(nodes, step.at, step.side, sub) else {
