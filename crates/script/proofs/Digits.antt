@@ -76,21 +76,6 @@ module _ (line : List ℕ) (from n : ℕ) (counts : n ≡ length (front_digits (
       let long : length (front_digits (drop from line)) ≡ n = ap length (sym (same few)) ∙ sym counts in
       rw (long, some_few, is ∙ ap value (same few)) refl
 
--- each of a list of digits is one
-pub digit_at : (ds : List ℕ) (i : ℕ) → front_digits ds ≡ ds → i < length ds → is_digit (get_or ds i 0) ≡ true
-digit_at [] i h inside = absurd (omega arith)
-digit_at (d ∷ ds) i h inside = go (is_digit d) refl h (digit_at ds) i inside
-  where
-    go : (t : Bool) → is_digit d ≡ t → cond t (d ∷ front_digits ds) [] ≡ d ∷ ds
-        → ((k : ℕ) → front_digits ds ≡ ds → k < length ds → is_digit (get_or ds k 0) ≡ true)
-        → (i : ℕ) → i < length (d ∷ ds) → is_digit (get_or (d ∷ ds) i 0) ≡ true
-    go true e h later zero below = e
-    go true e h later (suc i) below = let same : front_digits ds ≡ ds = cc in later i same (omega arith)
-    go false e h later i below = let z : ◌≡◌ {A = ℕ} 0 1 = cc in absurd (omega arith)
-
-pub digit_low : (ds : List ℕ) (i : ℕ) → front_digits ds ≡ ds → i < length ds → 48 ≤ get_or ds i 0
-digit_low ds i h inside = leb-true 48 (get_or ds i 0) (and_parts (leb 48 (get_or ds i 0)) (leb (get_or ds i 0) 57) (digit_at ds i h inside)).0
-
 -- v is what the digits before a place write, and n is how many they are
 pub record Read (bs : List ℕ) (i v n : ℕ) : Type 0 where
   pub few : i ≤ 11
@@ -98,28 +83,3 @@ pub record Read (bs : List ℕ) (i v n : ℕ) : Type 0 where
   pub counts : n ≡ i
   pub value_same : value_after v (front_digits (drop i bs)) ≡ value (front_digits bs)
   pub count_same : i + length (front_digits (drop i bs)) ≡ length (front_digits bs)
-
-power_more : (k v d : ℕ) → v < 10 ^ k → d < 10 → v * 10 + d < 10 ^ (k + 1)
-power_more k v d h e = rw (pow-add 10 k 1) (omega arith)
-
--- one digit on
-pub read_more : (bs : List ℕ) (i v n : ℕ) → Read bs i v n → i < length bs → length bs ≤ 11 → is_digit (get_or bs i 0) ≡ true
-    → Read bs (i + 1) (v * 10 + (get_or bs i 0 - 48)) (n + 1)
-read_more bs i v n r h few d =
-    let more : front_digits (drop i bs) ≡ get_or bs i 0 ∷ front_digits (drop (i + 1) bs) = rw (drop_more bs i 0 h, d) refl in
-    let b : ℕ = get_or bs i 0 in
-    let high : b ≤ 57 = leb-true b 57 (and_parts (leb 48 b) (leb b 57) d).1 in
-    let small : b - 48 < 10 = omega arith in
-    let rest : length (front_digits (drop i bs)) ≡ suc (length (front_digits (drop (i + 1) bs))) = ap length more in
-    record {
-      few = omega arith;
-      small = power_more i v (get_or bs i 0 - 48) r.small small;
-      counts = omega (arith, r.counts);
-      value_same = ap (value_after v) (sym more) ∙ r.value_same;
-      count_same = omega (arith, rest, r.count_same);
-    }
-
--- where no digit follows, all are read
-pub read_all : (bs : List ℕ) (i v n : ℕ) → Read bs i v n → front_digits (drop i bs) ≡ [] → (v ≡ value (front_digits bs)) × (n ≡ length (front_digits bs))
-read_all bs i v n r none =
-    (ap (value_after v) (sym none) ∙ r.value_same, omega (arith, r.counts, r.count_same, ap length none))
