@@ -1,5 +1,5 @@
 -- The digits at the front of the part are the number, where there are 1 to 10.
-use Rattle.std.proofs.Common.{ℕ, List, length, sym, ap, ◌∙◌, arith}
+use Rattle.std.proofs.Common.{ℕ, List, length, sym, ap, ◌∙◌}
 use Rattle.script.specs.Numbers.{front_digits, value}
 use Rattle.script.proofs.Digits.{number_refused, number_counted}
 use Rattle.script.proofs.number.read_number.Goals as goal
