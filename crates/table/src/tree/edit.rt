@@ -7,7 +7,7 @@ ghost use Rattle.table.specs.Remove.{Stem, MinTaken, Lifted};
 ghost use Rattle.table.specs.Change.{Inserts, Removes};
 
 use super::balance::{balance, join, read};
-use super::path::{climb, left_end, seek};
+use super::path::{Path, climb, left_end, seek};
 use crate::key::Key;
 use crate::node::{Item, NONE, Node};
 use crate::side::Links;
@@ -29,12 +29,13 @@ pub(crate) fn insert<K: Key, V: Copy>(
     requires short { length nodes.old ≤ 1024 }
     ensures { (t : Tree K V) → Whole K.before nodes.old root t → Free nodes.old item.at t → Inserts K.before nodes.old nodes.new item t result }
 {
-    let mut place = seek(nodes, root, item.key);
-    if place.link != NONE {
+    let mut path = Path::new();
+    let link = seek(nodes, root, item.key, &mut path);
+    if link != NONE {
         return None;
     }
     let new = join(nodes, item, Links::NONE);
-    Some(climb(nodes, &mut place.path, new))
+    Some(climb(nodes, &mut path, new))
 }
 
 // Takes the first node out of a tree.
@@ -42,10 +43,11 @@ fn take_min<K: Copy, V: Copy>(nodes: &mut [Node<K, V>], root: u16) -> Taken
     requires { (t : Tree K V) × Stem nodes.old root t }
     ensures { (t : Tree K V) → Stem nodes.old root t → MinTaken nodes.old nodes.new result.at result.rest t }
 {
-    let mut end = left_end(nodes, root);
-    let right = read(nodes, end.link).links.right;
-    let rest = climb(nodes, &mut end.path, right);
-    Taken { at: end.link, rest }
+    let mut path = Path::new();
+    let at = left_end(nodes, root, &mut path);
+    let right = read(nodes, at).links.right;
+    let rest = climb(nodes, &mut path, right);
+    Taken { at, rest }
 }
 
 // Takes the top node out of a tree.
@@ -73,14 +75,12 @@ pub(crate) fn remove<K: Key, V: Copy>(nodes: &mut [Node<K, V>], root: u16, key: 
     requires short { length nodes.old ≤ 1024 }
     ensures { (t : Tree K V) → Whole K.before nodes.old root t → Removes K.before nodes.old nodes.new key t result }
 {
-    let mut place = seek(nodes, root, key);
-    if place.link == NONE {
+    let mut path = Path::new();
+    let at = seek(nodes, root, key, &mut path);
+    if at == NONE {
         return None;
     }
-    let sub = lift(nodes, place.link);
-    let rest = climb(nodes, &mut place.path, sub);
-    Some(Taken {
-        at: place.link,
-        rest,
-    })
+    let sub = lift(nodes, at);
+    let rest = climb(nodes, &mut path, sub);
+    Some(Taken { at, rest })
 }

@@ -2,7 +2,7 @@
 // is chosen and noted, so that an iterator over the way would be no plainer. In `left_end` a `for`
 // over `successors` was tried: the loop still keeps the link before, reads a left link at two places, and its proof did not close
 // (`loop-next-init`, that the closure may be called after any calls).
-ghost use Rattle.std.specs.Prelude.{◌≡◌, ℕ, ◌≤◌, List, ◌++◌};
+ghost use Rattle.std.specs.Prelude.{◌≡◌, ℕ, ◌≤◌, List, [], ◌++◌};
 ghost use Rattle.table.specs.Tree.{Tree, tall, inorder};
 ghost use Rattle.table.specs.Path.{Frame, Climb, Climbed, front, back, top};
 ghost use Rattle.table.specs.Search.{Whole, Descent, Under, Over, Keyed};
@@ -27,13 +27,6 @@ const DEEP: usize = 14;
 // The steps of a way down, from the root on.
 pub(crate) type Path = ArrayVec<Step, DEEP>;
 
-// The end of a way down: its steps, and the link that it came to.
-#[derive(Drop)]
-pub(crate) struct Place {
-    pub(crate) path: Path,
-    pub(crate) link: u16,
-}
-
 // Goes back up a way, and balances each node of it over the tree that is new below, until nothing changes above.
 pub(crate) fn climb<K: Copy, V: Copy>(nodes: &mut [Node<K, V>], path: &mut Path, link: u16) -> u16
     requires { (fs : List (Frame K V)) × (t : Tree K V) × (h : ℕ) × Climb nodes.old path.old.items link fs t h }
@@ -50,12 +43,13 @@ pub(crate) fn climb<K: Copy, V: Copy>(nodes: &mut [Node<K, V>], path: &mut Path,
     sub
 }
 
-// Goes down to the node of a key, or to no node where there is none.
-pub(crate) fn seek<K: Key, V: Copy>(nodes: &[Node<K, V>], root: u16, key: K) -> Place
-    requires { (t : Tree K V) × Whole K.before nodes.now root t × (tall t ≤ 14) }
-    ensures { (t : Tree K V) → Whole K.before nodes.now root t → tall t ≤ 14 → Descent K.before (Under K.before key) (Over K.before key) nodes.now result.path.items result.link t × Keyed nodes.now result.link key }
+// Goes down to the node of a key, or to no node where there is none, and answers its link. The steps go into a path that is lent, here and in
+// `left_end`: given back by value it would be copied.
+pub(crate) fn seek<K: Key, V: Copy>(nodes: &[Node<K, V>], root: u16, key: K, path: &mut Path) -> u16
+    requires tree { (t : Tree K V) × Whole K.before nodes.now root t × (tall t ≤ 14) }
+    requires empty { path.old.items ≡ [] }
+    ensures { (t : Tree K V) → Whole K.before nodes.now root t → tall t ≤ 14 → Descent K.before (Under K.before key) (Over K.before key) nodes.now path.new.items result t × Keyed nodes.now result key }
 {
-    let mut path = Path::new();
     let mut link = root;
     while link != NONE {
         let n = read(nodes, link);
@@ -75,20 +69,20 @@ pub(crate) fn seek<K: Key, V: Copy>(nodes: &[Node<K, V>], root: u16, key: K) -> 
             break;
         }
     }
-    Place { path, link }
+    link
 }
 
 // Goes down to the first node of a tree.
-pub(crate) fn left_end<K: Copy, V: Copy>(nodes: &[Node<K, V>], root: u16) -> Place
-    requires { (t : Tree K V) × Stem nodes.now root t }
-    ensures { (t : Tree K V) → Stem nodes.now root t → Leftward nodes.now result.path.items result.link t × LeftEnd nodes.now result.link }
+pub(crate) fn left_end<K: Copy, V: Copy>(nodes: &[Node<K, V>], root: u16, path: &mut Path) -> u16
+    requires tree { (t : Tree K V) × Stem nodes.now root t }
+    requires empty { path.old.items ≡ [] }
+    ensures { (t : Tree K V) → Stem nodes.now root t → Leftward nodes.now path.new.items result t × LeftEnd nodes.now result }
 {
-    let mut path = Path::new();
     let mut link = root;
     loop {
         let n = read(nodes, link);
         if n.links.left == NONE {
-            return Place { path, link };
+            return link;
         }
         path.push(Step {
             at: link,

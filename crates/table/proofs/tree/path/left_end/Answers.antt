@@ -4,11 +4,11 @@ use Rattle.table.proofs.Removing.{left_starts, left_step, left_noted}
 use Rattle.table.proofs.tree.path.left_end.Goals as goal
 
 pub loop-n-init : goal.loop-n-init
-loop-n-init g c = λ t s. left_starts _ _ _ t c.new-path.ensures s
+loop-n-init g c = λ t s. left_starts _ _ _ t c.requires.empty s
 
 pub read-n-requires : goal.read-n-requires
 read-n-requires g c =
-    let d = c.loop-n.invariant c.requires.0 c.requires.1 in
+    let d = c.loop-n.invariant c.requires.tree.0 c.requires.tree.1 in
     link_within _ _ d.sub d.way.stands d.some
 
 pub loop-n-preserved : goal.loop-n-preserved

@@ -5,11 +5,11 @@ use Rattle.table.proofs.Descending.{went_left, went_right, starts, noted}
 use Rattle.table.proofs.tree.path.seek.Goals as goal
 
 pub loop-link-init : goal.loop-link-init
-loop-link-init g c = λ t w space. starts _ _ _ _ _ _ t c.new-path.ensures w space
+loop-link-init g c = λ t w space. starts _ _ _ _ _ _ t c.requires.empty w space
 
 pub read-n-requires : goal.read-n-requires
 read-n-requires g c =
-    let d = c.loop-link.invariant c.requires.0 c.requires.1 c.requires.2 in
+    let d = c.loop-link.invariant c.requires.tree.0 c.requires.tree.1 c.requires.tree.2 in
     link_within _ _ d.sub d.walk.way.stands c.loop-link-test.true
 
 pub loop-link-preserved-then-precedes : goal.loop-link-preserved-then-precedes
