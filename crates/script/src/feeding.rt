@@ -61,7 +61,8 @@ impl Feed {
     {
         if b == b'\n' {
             add_reply(out, console.answer(self.line.as_slice()))?;
-            self.line.clear();
+            // No `clear`, which writes blanks by a call for each line.
+            self.line = ArrayVec::new();
         } else {
             // Where there is no room, the line is too long already.
             let _ = self.line.try_push(b);
